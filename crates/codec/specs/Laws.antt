@@ -1,0 +1,303 @@
+-- Laws of `Bytes`, each once, over the width: what a part of a part is, what a splice leaves, numbers and their bytes,
+-- and how straight-line code that reads or stores byte by byte meets them. Assumes nothing.
+use mathlib.Core.Path.{_≡_, refl, ap, sym, subst, _∙_}
+use Prim.Native.Nat.{ℕ, zero, suc, _+_, _*_, _-_, _/_, _%_, _^_, _≤_, _<_}
+use native.Mathlib.Nat.{add-zero, zero-add, add-suc, suc-add, add-assoc, mul-assoc, pow-suc, pow-succ'}
+use native.Mathlib.Numerals.{add-one}
+use native.Mathlib.Omega.{arith}
+use mathlib.Core.List.{List, [], _∷_, _++_, append-assoc, append-nil}
+use lib.Dec.{eqb}
+use mathlib.Core.Bool.{Bool, true, false, _&&_, true≢false}
+use borrow.Author.Tests.{eqb-true, eq-eqb}
+use lib.ListN.{length, take, drop, getD, set, length-append, length-take, length-drop, length-set, List·getD-append, take-append-drop, drop-of-length-le}
+use lib.Seq.{drop-cons, take-at, drop-at, drop-drop, length-take-le, take-add, ext-getD, getD-take, getD-drop, getD-append-add, drop-nil, take-nil, set-split, take-all, take-length}
+use Rattle.codec.specs.Bytes.{chunk, splice, le, bytesOf, joined, sameBytes, Bytes}
+use Rattle.codec.specs.Lists.{and-true}
+
+-- ---- lengths
+
+pub length-chunk : (l : List ℕ) (o n : ℕ) → o + n ≤ length l → length (chunk l o n) ≡ n
+unfolding chunk
+length-chunk l o n h = simp (length-take, length-drop) (omega arith)
+
+pub length-splice : (l : List ℕ) (o : ℕ) (vs : List ℕ) → o + length vs ≤ length l → length (splice l o vs) ≡ length l
+unfolding splice
+length-splice l o vs h = simp (length-append, length-take, length-drop) (omega arith)
+
+pub length-bytesOf : (n v : ℕ) → length (bytesOf n v) ≡ n
+unfolding bytesOf
+length-bytesOf zero v = refl
+length-bytesOf (suc n) v = ap suc (length-bytesOf n (v / 256))
+
+-- ---- one byte
+
+pub getD-chunk : (l : List ℕ) (o n i : ℕ) → i < n → getD (chunk l o n) i 0 ≡ getD l (o + i) 0
+unfolding chunk
+getD-chunk l o n i h = rw (getD-take, getD-drop)
+
+pub getD-splice-in : (l : List ℕ) (o : ℕ) (vs : List ℕ) (i : ℕ) → o + length vs ≤ length l → i < length vs → getD (splice l o vs) (o + i) 0 ≡ getD vs i 0
+unfolding splice
+getD-splice-in l o vs i h hi =
+    let e : length (take o l) ≡ o = length-take-le o l (omega arith) in
+    subst (λ (k : ℕ). getD (take o l ++ (vs ++ drop (o + length vs) l)) (k + i) 0 ≡ getD vs i 0) e
+    (rw getD-append-add (List·getD-append vs _ 0 i hi))
+
+pub getD-splice-before : (l : List ℕ) (o : ℕ) (vs : List ℕ) (i : ℕ) → o ≤ length l → i < o → getD (splice l o vs) i 0 ≡ getD l i 0
+unfolding splice
+getD-splice-before l o vs i h hi =
+    let e : i < length (take o l) = omega (arith, length-take-le o l h) in
+    List·getD-append (take o l) _ 0 i e ∙ getD-take o l i 0 hi
+
+pub getD-splice-after : (l : List ℕ) (o : ℕ) (vs : List ℕ) (i : ℕ) → o + length vs ≤ length l → o + length vs ≤ i → getD (splice l o vs) i 0 ≡ getD l i 0
+unfolding splice
+getD-splice-after l o vs i h hi =
+    let e : length (take o l ++ vs) ≡ o + length vs = simp (length-append, length-take-le o l (omega arith)) in
+    let k : length (take o l ++ vs) + (i - (o + length vs)) ≡ i = omega (arith, e) in
+    let j : (o + length vs) + (i - (o + length vs)) ≡ i = omega arith in
+    ap (λ (r : List ℕ). getD r i 0) (sym (append-assoc (take o l) vs _))
+    ∙ ap (λ (m : ℕ). getD ((take o l ++ vs) ++ drop (o + length vs) l) m 0) (sym k)
+    ∙ getD-append-add (take o l ++ vs) _ _ 0
+    ∙ getD-drop (o + length vs) l _ 0
+    ∙ ap (λ (m : ℕ). getD l m 0) j
+
+-- ---- a part of a part
+
+pub chunk-chunk : (l : List ℕ) (o n p m : ℕ) → p + m ≤ n → chunk (chunk l o n) p m ≡ chunk l (o + p) m
+unfolding chunk
+chunk-chunk l o n p m h =
+    ext-getD 0 _ _ (simp (length-take, length-drop) (omega arith))
+    (λ i hi.
+    let him : i < m = omega (arith, simp (length-take) at hi) in
+    let hin : p + i < n = omega arith in
+    getD-chunk (chunk l o n) p m i him ∙ getD-chunk l o n (p + i) hin ∙ ap (λ (k : ℕ). getD l k 0) (omega arith) ∙ sym (getD-chunk l (o + p) m i him))
+
+-- two parts, one behind the other
+pub chunk-add : (l : List ℕ) (o a b : ℕ) → chunk l o (a + b) ≡ chunk l o a ++ chunk l (o + a) b
+unfolding chunk
+chunk-add l o a b = take-add a b (drop o l) ∙ ap (λ (r : List ℕ). take a (drop o l) ++ take b r) (drop-drop a o l)
+
+-- ---- what a splice leaves
+
+pub chunk-splice-same : (l : List ℕ) (o : ℕ) (vs : List ℕ) (n : ℕ) → length vs ≡ n → o + n ≤ length l → chunk (splice l o vs) o n ≡ vs
+chunk-splice-same l o vs n e h =
+    let len : length (chunk (splice l o vs) o n) ≡ n = length-chunk _ o n (omega (arith, length-splice l o vs (omega arith))) in
+    ext-getD 0 _ _ (len ∙ sym e)
+    (λ i hi.
+    let him : i < n = omega arith in
+    getD-chunk (splice l o vs) o n i him ∙ getD-splice-in l o vs i (omega arith) (omega arith))
+
+pub chunk-splice-before : (l : List ℕ) (o : ℕ) (vs : List ℕ) (p n : ℕ) → o + length vs ≤ length l → p + n ≤ o → chunk (splice l o vs) p n ≡ chunk l p n
+chunk-splice-before l o vs p n h d =
+    let len : length (chunk (splice l o vs) p n) ≡ n = length-chunk _ p n (omega (arith, length-splice l o vs h)) in
+    ext-getD 0 _ _ (len ∙ sym (length-chunk l p n (omega arith)))
+    (λ i hi.
+    let him : i < n = omega arith in
+    getD-chunk (splice l o vs) p n i him ∙ getD-splice-before l o vs (p + i) (omega arith) (omega arith) ∙ sym (getD-chunk l p n i him))
+
+pub chunk-splice-after : (l : List ℕ) (o : ℕ) (vs : List ℕ) (p n : ℕ) → p + n ≤ length l → o + length vs ≤ p → chunk (splice l o vs) p n ≡ chunk l p n
+chunk-splice-after l o vs p n h d =
+    let len : length (chunk (splice l o vs) p n) ≡ n = length-chunk _ p n (omega (arith, length-splice l o vs (omega arith))) in
+    ext-getD 0 _ _ (len ∙ sym (length-chunk l p n h))
+    (λ i hi.
+    let him : i < n = omega arith in
+    getD-chunk (splice l o vs) p n i him ∙ getD-splice-after l o vs (p + i) (omega arith) (omega arith) ∙ sym (getD-chunk l p n i him))
+
+-- two splices, one after the other, are one
+pub splice-splice : (l : List ℕ) (o : ℕ) (xs : List ℕ) (n : ℕ) (ys : List ℕ) → length xs ≡ n → o + n + length ys ≤ length l → splice (splice l o xs) (o + n) ys ≡ splice l o (xs ++ ys)
+unfolding splice
+splice-splice l o xs n ys e h =
+    let d : List ℕ = drop (o + length xs) l in
+    let a : List ℕ = take o l ++ xs in
+    let ea : length a ≡ o + n = simp (length-append, length-take-le o l (omega arith)) (omega arith) in
+    let whole : take o l ++ (xs ++ d) ≡ a ++ d = sym (append-assoc (take o l) xs d) in
+    let head : take (o + n) (take o l ++ (xs ++ d)) ≡ a = ap (take (o + n)) whole ∙ take-at a d (o + n) ea in
+    let tail : drop (o + n + length ys) (take o l ++ (xs ++ d)) ≡ drop (o + length (xs ++ ys)) l =
+    sym (drop-drop (length ys) (o + n) _) ∙ ap (λ (r : List ℕ). drop (length ys) (drop (o + n) r)) whole
+    ∙ ap (drop (length ys)) (drop-at a d (o + n) ea) ∙ drop-drop (length ys) (o + length xs) l
+    ∙ ap (λ (m : ℕ). drop m l) {x = o + length xs + length ys} {y = o + length (xs ++ ys)} (simp length-append (omega arith)) in
+    ap (λ (r : List ℕ). r ++ (ys ++ drop (o + n + length ys) (take o l ++ (xs ++ d)))) head
+    ∙ ap (λ (r : List ℕ). a ++ (ys ++ r)) tail
+    ∙ simp append-assoc
+
+-- src written over the front of all that stands from o on, and put back behind what stands before o
+pub splice-front : (l : List ℕ) (o : ℕ) (src rest : List ℕ) → o + length src ≤ length l →
+    rest ≡ take (length src) src ++ drop (length src) (take (length l - o) (drop o l)) →
+    take o l ++ (rest ++ drop (length l - o) (drop o l)) ≡ splice l o src
+unfolding splice
+splice-front l o src rest h e =
+    let all : take (length l - o) (drop o l) ≡ drop o l = take-all (length l - o) (drop o l) (simp length-drop (omega arith)) in
+    let none : drop (length l - o) (drop o l) ≡ [] = drop-of-length-le (drop o l) {i = length l - o} (simp length-drop (omega arith)) in
+    rw (none, append-nil, e, all, take-length, drop-drop)
+
+-- ---- numbers
+
+pub le-bytesOf : (n v : ℕ) → v < 256 ^ n → le (bytesOf n v) ≡ v
+unfolding le bytesOf
+le-bytesOf zero v h = omega arith
+le-bytesOf (suc n) v h =
+    let lo : v / 256 < 256 ^ n = omega (arith, rw pow-suc at h) in
+    let ih : le (bytesOf n (v / 256)) ≡ v / 256 = le-bytesOf n (v / 256) lo in
+    omega arith
+
+-- bytes that are bytes are those of their number
+pub bytesOf-le : (l : List ℕ) → Bytes l → bytesOf (length l) (le l) ≡ l
+unfolding le bytesOf
+bytesOf-le [] h = refl
+bytesOf-le (b ∷ bs) h =
+    let hb : b < 256 = h 0 in
+    let low : (b + 256 * le bs) % 256 ≡ b = omega arith in
+    let high : (b + 256 * le bs) / 256 ≡ le bs = omega arith in
+    cc (bytesOf-le bs (λ i. h (suc i)))
+
+pow-step : (a x : ℕ) → 256 ^ suc a * x ≡ 256 * (256 ^ a * x)
+pow-step a x = ap (λ (p : ℕ). p * x) (pow-succ' 256 a) ∙ mul-assoc 256 (256 ^ a) x
+
+-- a low part of a bytes and a high part of b are written one after the other
+pub bytesOf-add : (a b lo hi : ℕ) → lo < 256 ^ a → bytesOf (a + b) (lo + 256 ^ a * hi) ≡ bytesOf a lo ++ bytesOf b hi
+unfolding bytesOf
+bytesOf-add zero b lo hi h = rw zero-add (ap (bytesOf b) {x = lo + 256 ^ 0 * hi} {y = hi} (omega arith))
+bytesOf-add (suc a) b lo hi h =
+    let e : 256 ^ suc a * hi ≡ 256 * (256 ^ a * hi) = pow-step a hi in
+    let low : (lo + 256 ^ suc a * hi) % 256 ≡ lo % 256 = omega arith in
+    let high : (lo + 256 ^ suc a * hi) / 256 ≡ lo / 256 + 256 ^ a * hi = omega arith in
+    let less : lo / 256 < 256 ^ a = omega (arith, rw pow-suc at h) in
+    rw suc-add (cc (bytesOf-add a b (lo / 256) hi less))
+
+-- the number that one list of bytes behind another is
+pub le-append : (xs ys : List ℕ) → le (xs ++ ys) ≡ le xs + 256 ^ length xs * le ys
+unfolding le
+le-append [] ys = omega arith
+le-append (x ∷ xs) ys = omega (arith, le-append xs ys, pow-step (length xs) (le ys))
+
+-- ---- straight-line code: bytes read one by one, and stored one by one
+
+-- the first byte, and the number that the others are; a byte past the end counts as 0
+pub le-step : (l : List ℕ) (o n : ℕ) → le (chunk l o (suc n)) ≡ getD l o 0 + 256 * le (chunk l (suc o) n)
+unfolding chunk le
+le-step [] o n = simp (drop-nil, take-nil)
+le-step (x ∷ l) zero n = refl
+le-step (x ∷ l) (suc o) n = le-step l o n
+
+pub le-step-at : (l : List ℕ) (o k n : ℕ) → le (chunk l (o + k) (suc n)) ≡ getD l (o + k) 0 + 256 * le (chunk l (o + suc k) n)
+le-step-at l o k n = le-step l (o + k) n ∙ ap (λ (m : ℕ). getD l (o + k) 0 + 256 * le (chunk l m n)) (sym (add-suc o k))
+
+pub le-none : (l : List ℕ) (o : ℕ) → le (chunk l o 0) ≡ 0
+unfolding chunk le
+le-none l o = refl
+
+pub u32-bytes : (l : List ℕ) (o : ℕ) → le (chunk l o 4) ≡ getD l o 0 + 256 * (getD l (o + 1) 0 + 256 * (getD l (o + 2) 0 + 256 * getD l (o + 3) 0))
+u32-bytes l o = omega (arith, rw add-zero at (le-step-at l o 0 3), le-step-at l o 1 2, le-step-at l o 2 1, le-step-at l o 3 0, le-none l (o + 4))
+
+pub u64-halves : (l : List ℕ) (o : ℕ) → o + 8 ≤ length l → le (chunk l o 8) ≡ le (chunk l o 4) + 4294967296 * le (chunk l (o + 4) 4)
+u64-halves l o h =
+    let four : length (chunk l o 4) ≡ 4 = length-chunk l o 4 (omega arith) in
+    ap le (chunk-add l o 4 4) ∙ le-append (chunk l o 4) (chunk l (o + 4) 4)
+    ∙ ap (λ (n : ℕ). le (chunk l o 4) + 256 ^ n * le (chunk l (o + 4) 4)) four
+
+pub u64-put : (l : List ℕ) (o v : ℕ) → o + 8 ≤ length l →
+    splice (splice l o (bytesOf 4 (v % 4294967296))) (o + 4) (bytesOf 4 (v / 4294967296)) ≡ splice l o (bytesOf 8 v)
+u64-put l o v h =
+    splice-splice l o (bytesOf 4 (v % 4294967296)) 4 (bytesOf 4 (v / 4294967296)) (length-bytesOf 4 _)
+    (omega (arith, length-bytesOf 4 (v / 4294967296)))
+    ∙ ap (splice l o)
+    (sym (bytesOf-add 4 4 (v % 4294967296) (v / 4294967296) (omega arith))
+    ∙ ap (bytesOf 8) {x = v % 4294967296 + 4294967296 * (v / 4294967296)} {y = v} (omega arith))
+
+-- vs stored one by one at o + k, o + k + 1, ..: at a list written out and a numeral k it computes to the stores of the code
+abbrev pub stores : List ℕ → ℕ → ℕ → List ℕ → List ℕ
+stores l o k [] = l
+stores l o k (v ∷ vs) = stores (set l (o + k) v) o (suc k) vs
+
+pub set-splice : (l : List ℕ) (i v : ℕ) → i < length l → set l i v ≡ splice l i (v ∷ [])
+unfolding splice
+set-splice l i v h = set-split l i v h ∙ ap (λ (m : ℕ). take i l ++ (v ∷ drop m l)) (sym (add-one i))
+
+pub splice-none : (l : List ℕ) (i : ℕ) → l ≡ splice l i []
+unfolding splice
+splice-none l i = rw add-zero (sym (take-append-drop i l))
+
+pub stores-splice : (l : List ℕ) (o k : ℕ) (vs : List ℕ) → o + k + length vs ≤ length l → stores l o k vs ≡ splice l (o + k) vs
+stores-splice l o k [] h = splice-none l (o + k)
+stores-splice l o k (v ∷ vs) h =
+    let hs : o + suc k + length vs ≤ length (set l (o + k) v) = simp length-set (omega arith) in
+    let i1 : o + suc k ≡ o + k + 1 = omega arith in
+    stores-splice (set l (o + k) v) o (suc k) vs hs
+    ∙ ap (λ (m : ℕ). splice (set l (o + k) v) m vs) i1
+    ∙ ap (λ (r : List ℕ). splice r (o + k + 1) vs) (set-splice l (o + k) v (omega arith))
+    ∙ splice-splice l (o + k) (v ∷ []) 1 vs refl (omega arith)
+
+-- the same from o itself, for code whose first store is at o and not at o + 0
+pub stores-at : (l : List ℕ) (o v : ℕ) (vs : List ℕ) → o + suc (length vs) ≤ length l → stores (set l o v) o 1 vs ≡ splice l o (v ∷ vs)
+stores-at l o v vs h = rw add-zero at (stores-splice l o 0 (v ∷ vs) (omega arith))
+
+-- the n bytes from o + k on, one by one: at numerals k and n it computes to what the code reads
+abbrev pub reads : List ℕ → ℕ → ℕ → ℕ → List ℕ
+reads l o k zero = []
+reads l o k (suc n) = getD l (o + k) 0 ∷ reads l o (suc k) n
+
+pub chunk-reads : (l : List ℕ) (o k n : ℕ) → o + k + n ≤ length l → chunk l (o + k) n ≡ reads l o k n
+unfolding chunk
+chunk-reads l o k zero h = refl
+chunk-reads l o k (suc n) h =
+    ap (take (suc n)) (drop-cons l (o + k) 0 (omega arith))
+    ∙ ap (λ (m : ℕ). getD l (o + k) 0 ∷ take n (drop m l)) (sym (add-suc o k))
+    ∙ ap (λ (r : List ℕ). getD l (o + k) 0 ∷ r) (chunk-reads l o (suc k) n (omega arith))
+
+-- a list of a known length, written out
+pub written-out : (l : List ℕ) (n : ℕ) → length l ≡ n → l ≡ reads l 0 0 n
+unfolding chunk
+written-out l n h = sym (take-all n l (omega arith)) ∙ chunk-reads l 0 0 n (omega arith)
+
+-- the same from o itself, for code whose first read is at o and not at o + 0
+pub chunk-at : (l : List ℕ) (o n : ℕ) → o + suc n ≤ length l → chunk l o (suc n) ≡ getD l o 0 ∷ reads l o 1 n
+chunk-at l o n h = rw add-zero at (chunk-reads l o 0 (suc n) (omega arith))
+
+-- lists stored one after the other from o + k on, and all at once
+abbrev pub splices : List ℕ → ℕ → ℕ → List (List ℕ) → List ℕ
+splices l o k [] = l
+splices l o k (xs ∷ xss) = splices (splice l (o + k) xs) o (k + length xs) xss
+
+pub splices-splice : (l : List ℕ) (o k : ℕ) (xss : List (List ℕ)) → o + k + length (joined xss) ≤ length l → splices l o k xss ≡ splice l (o + k) (joined xss)
+splices-splice l o k [] h = splice-none l (o + k)
+splices-splice l o k (xs ∷ xss) h =
+    let hj : length (xs ++ joined xss) ≡ length xs + length (joined xss) = length-append xs (joined xss) in
+    let hl : length (splice l (o + k) xs) ≡ length l = length-splice l (o + k) xs (omega arith) in
+    splices-splice (splice l (o + k) xs) o (k + length xs) xss (omega arith)
+    ∙ ap (λ (m : ℕ). splice (splice l (o + k) xs) m (joined xss)) (sym (add-assoc o k (length xs)))
+    ∙ splice-splice l (o + k) xs (length xs) (joined xss) refl (omega arith)
+
+-- ---- a loop that passes the bytes of a list one by one
+
+-- two lists of one length
+pub same-step : (s t : List ℕ) (i : ℕ) → i < length s → i < length t →
+    sameBytes (drop i s) (drop i t) ≡ (eqb (getD s i 0) (getD t i 0) && sameBytes (drop (i + 1) s) (drop (i + 1) t))
+unfolding sameBytes
+same-step s t i h k = rw (drop-cons s i 0, drop-cons t i 0, add-one)
+
+pub same-none : (s t : List ℕ) (i : ℕ) → length s ≤ i → length t ≤ i → sameBytes (drop i s) (drop i t) ≡ true
+unfolding sameBytes
+same-none s t i h k = rw (drop-of-length-le s h, drop-of-length-le t k)
+
+pub same-length-false : (s t : List ℕ) → (length s ≡ length t → ⊥) → sameBytes s t ≡ false
+unfolding sameBytes
+same-length-false [] [] h = absurd (h refl)
+same-length-false [] (y ∷ t) h = refl
+same-length-false (x ∷ s) [] h = refl
+same-length-false (x ∷ s) (y ∷ t) h = go (eqb x y) (same-length-false s t (λ e. h (ap suc e)))
+  where
+    go : (b : Bool) → sameBytes s t ≡ false → (b && sameBytes s t) ≡ false
+    go true e = e
+    go false e = refl
+
+-- what is found the same is equal, and the other way round
+pub same-eq : (s t : List ℕ) → sameBytes s t ≡ true → s ≡ t
+unfolding sameBytes
+same-eq [] [] h = refl
+same-eq [] (y ∷ t) h = absurd (true≢false (sym h))
+same-eq (x ∷ s) [] h = absurd (true≢false (sym h))
+same-eq (x ∷ s) (y ∷ t) h = let p = and-true _ _ h in cc (eqb-true x y (p .0), same-eq s t (p .1))
+
+pub same-refl : (s : List ℕ) → sameBytes s s ≡ true
+unfolding sameBytes
+same-refl [] = refl
+same-refl (x ∷ s) = simp (eq-eqb x x refl, same-refl s)

@@ -1,0 +1,37 @@
+-- A test on every element of a list, and conjunctions as code decides them: what every loop that looks for a fault, and
+-- every function with a `return` for each test, cites. Assumes nothing.
+use mathlib.Core.Path.{_≡_, refl, ap, sym, _∙_}
+use Prim.Native.Nat.{ℕ, suc, _+_, _≤_, _<_}
+use native.Mathlib.Numerals.{add-one}
+use mathlib.Core.Bool.{Bool, true, false, _&&_, true≢false}
+use mathlib.Core.List.{List, [], _∷_}
+use lib.ListN.{length, getD, drop, drop-of-length-le}
+use lib.Seq.{drop-cons}
+
+-- f holds of every element
+unfoldable pub every : {A : Type 0} → (A → Bool) → List A → Bool
+every f [] = true
+every f (x ∷ xs) = f x && every f xs
+
+-- ---- a loop over i: those from i on are the i-th, if there is one, and those after it
+
+pub every-step : {A : Type 0} (f : A → Bool) (s : List A) (z : A) (i : ℕ) → i < length s →
+    every f (drop i s) ≡ (f (getD s i z) && every f (drop (i + 1) s))
+unfolding every
+every-step f s z i h = rw (drop-cons s i z, add-one)
+
+pub every-none : {A : Type 0} (f : A → Bool) (s : List A) (i : ℕ) → length s ≤ i → every f (drop i s) ≡ true
+unfolding every
+every-none f s i h = ap (every f) (drop-of-length-le s h)
+
+-- ---- a conjunction: the first test that fails answers, and one that holds leaves the rest
+
+pub and-stop : (a b : Bool) → a ≡ false → false ≡ (a && b)
+and-stop a b h = ap (λ (x : Bool). x && b) (sym h)
+
+pub and-go : (a b : Bool) {r : Bool} → a ≡ true → r ≡ b → r ≡ (a && b)
+and-go a b h e = e ∙ ap (λ (x : Bool). x && b) (sym h)
+
+pub and-true : (a b : Bool) → (a && b) ≡ true → (a ≡ true) × (b ≡ true)
+and-true true b h = (refl, h)
+and-true false b h = absurd (true≢false (sym h))
