@@ -73,7 +73,14 @@ pub fn put_u32(t: &mut [u8], o: usize, v: u32)
     let v1 = v / 256;
     let v2 = v1 / 256;
     let v3 = v2 / 256;
-    put_four(t, o, (v % 256) as u8, (v1 % 256) as u8, (v2 % 256) as u8, (v3 % 256) as u8);
+    put_four(
+        t,
+        o,
+        (v % 256) as u8,
+        (v1 % 256) as u8,
+        (v2 % 256) as u8,
+        (v3 % 256) as u8,
+    );
 }
 
 // Writes v as eight bytes from o on: the low half, and the high half.

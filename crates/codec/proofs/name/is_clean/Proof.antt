@@ -49,7 +49,7 @@ loop-again c =
     let l = c .before .before .before .before .before .loop in (
       omega arith,
       l .inv .1 ∙ every-step _ _ 0 _ (c .before .before .before .before .loop-test .taken)
-      ∙ simp (ne-eqb _ _ (c .before .before .if1 .left), ne-eqb _ _ (c .if2 .left)),
+          ∙ simp (ne-eqb _ _ (c .before .before .if1 .left), ne-eqb _ _ (c .if2 .left)),
     )
 
 returns-3 : tie.Need-returns-3 Inv-loop μ-loop

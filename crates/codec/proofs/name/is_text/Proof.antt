@@ -19,16 +19,23 @@ is-clean-requires c κs = search needs
 returns-3 : tie.Need-returns-3
 unfolding isText
 returns-3 c =
-    simp
-    (le-leb _ _ (c .before .before .before .if1 .left), le-leb _ _ (c .before .before .if2 .left), ← c .before .is-clean .ensures,
-    not-true (c .before .is-clean .result) (c .if3 .taken))
+    simp (
+      le-leb _ _ (c .before .before .before .if1 .left),
+      le-leb _ _ (c .before .before .if2 .left),
+      ← c .before .is-clean .ensures,
+      not-true (c .before .is-clean .result) (c .if3 .taken),
+    )
 
 returns-4 : tie.Need-returns-4
 unfolding isText
 returns-4 c =
-    simp
-    (le-leb _ _ (c .before .before .before .before .if1 .left), le-leb _ _ (c .before .before .before .if2 .left), ← c .before .before .is-clean .ensures,
-    not-false (c .before .before .is-clean .result) (c .before .if3 .left), lt-leb _ _ (c .if4 .taken))
+    simp (
+      le-leb _ _ (c .before .before .before .before .if1 .left),
+      le-leb _ _ (c .before .before .before .if2 .left),
+      ← c .before .before .is-clean .ensures,
+      not-false (c .before .before .is-clean .result) (c .before .if3 .left),
+      lt-leb _ _ (c .if4 .taken),
+    )
 
 all-are-requires : tie.Need-all-are-requires
 all-are-requires c κs = search needs
@@ -36,9 +43,14 @@ all-are-requires c κs = search needs
 returns-5 : tie.Need-returns-5
 unfolding isText
 returns-5 c =
-    simp
-    (le-leb _ _ (c .before .before .before .before .before .if1 .left), le-leb _ _ (c .before .before .before .before .if2 .left), ← c .before .before .before .is-clean .ensures,
-    not-false (c .before .before .before .is-clean .result) (c .before .before .if3 .left), le-leb _ _ (c .before .if4 .left), ← c .all-are .ensures)
+    simp (
+      le-leb _ _ (c .before .before .before .before .before .if1 .left),
+      le-leb _ _ (c .before .before .before .before .if2 .left),
+      ← c .before .before .before .is-clean .ensures,
+      not-false (c .before .before .before .is-clean .result) (c .before .before .if3 .left),
+      le-leb _ _ (c .before .if4 .left),
+      ← c .all-are .ensures,
+    )
 
 pub is-text-spec : {M : Type 1} → statement M
 is-text-spec =

@@ -1,0 +1,4 @@
+pub mod Clocks
+pub mod Ids
+pub mod Laws
+pub mod Nodes
