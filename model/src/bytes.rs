@@ -26,7 +26,7 @@ pub fn put_u64(bytes: &mut [u8], at: usize, number: u64) {
 
 /// Says whether every byte is zero.
 pub fn all_zero(bytes: &[u8]) -> bool {
-    bytes.iter().all(|&byte| byte == 0)
+    bytes.iter().fold(0, |ones, byte| ones | byte) == 0
 }
 
 fn get(bytes: &[u8], at: usize, width: usize) -> u64 {

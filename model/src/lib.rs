@@ -12,11 +12,37 @@
 //! - `steps`: the steps that calls are made of
 //! - `calls`: the eleven calls
 //! - `variant`: wrong ways to take a step, for tests that must catch them
+//!
+//! What runs it stands on these:
+//!
+//! - `random`: random numbers from a seed
+//! - `asked`: a call as data, and the answers that it can get
+//! - `checks`: what every call must keep
+//! - `traffic`, `snapshots`: honest clusters under bad networks and clocks
+//! - `forge`, `aims`: tables and messages made by hand, and calls aimed at one answer
+//!
+//! And these are the runs:
+//!
+//! - `cluster`: random schedules, held to demand 3
+//! - `hostile`: every call on hostile tables, messages and numbers
+//! - `requests`, `answer`: requests and answers for a program in another language, and the model
+//!   answering them itself
 
+pub mod aims;
+pub mod answer;
+pub mod asked;
 pub mod bytes;
 pub mod calls;
+pub mod checks;
+pub mod cluster;
+pub mod forge;
+pub mod hostile;
 pub mod push;
+pub mod random;
 pub mod records;
+pub mod requests;
+pub mod snapshots;
 pub mod steps;
 pub mod table;
+pub mod traffic;
 pub mod variant;

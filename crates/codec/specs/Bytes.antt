@@ -66,6 +66,14 @@ sameBytes [] (y ∷ ys) = false
 sameBytes (x ∷ xs) [] = false
 sameBytes (x ∷ xs) (y ∷ ys) = eqb x y && sameBytes xs ys
 
+-- "Every used record starts with a two-byte mark."
+abbrev pub markedAt : List ℕ → ℕ → List ℕ → Bool
+markedAt l o mark = sameBytes (chunk l o 2) mark
+
+-- the n bytes from o on are zero
+abbrev pub zeroAt : List ℕ → ℕ → ℕ → Bool
+zeroAt l o n = allAre 0 (chunk l o n)
+
 -- no element of l is beyond a byte; past the end a list counts as zero
 abbrev pub Bytes : List ℕ → Type 0
 Bytes l = (i : ℕ) → getD l i 0 < 256

@@ -5,14 +5,15 @@ use Prim.Native.Nat.{ℕ, zero, suc, _+_, _*_, _-_, _/_, _%_, _^_, _≤_, _<_}
 use native.Mathlib.Nat.{add-zero, zero-add, add-suc, suc-add, add-assoc, mul-assoc, pow-suc, pow-succ'}
 use native.Mathlib.Numerals.{add-one}
 use native.Mathlib.Omega.{arith}
+use native.Mathlib.Decide.{decLt}
 use mathlib.Core.List.{List, [], _∷_, _++_, append-assoc, append-nil}
 use lib.Dec.{eqb}
 use mathlib.Core.Bool.{Bool, true, false, _&&_, true≢false}
 use borrow.Author.Tests.{eqb-true, eq-eqb}
-use lib.ListN.{length, take, drop, getD, set, length-append, length-take, length-drop, length-set, List·getD-append, take-append-drop, drop-of-length-le}
+use lib.ListN.{length, take, drop, getD, set, length-append, length-take, length-drop, length-set, List·getD-append, List·getD-eq-default, take-append-drop, drop-of-length-le}
 use lib.Seq.{drop-cons, take-at, drop-at, drop-drop, length-take-le, take-add, ext-getD, getD-take, getD-drop, getD-append-add, drop-nil, take-nil, set-split, take-all, take-length}
-use Rattle.codec.specs.Bytes.{chunk, splice, le, bytesOf, joined, sameBytes, Bytes}
-use Rattle.codec.specs.Lists.{and-true}
+use Rattle.codec.specs.Bytes.{chunk, splice, le, bytesOf, joined, sameBytes, markedAt, zeroAt, zeros, allAre, Bytes}
+use Rattle.codec.specs.Lists.{every, and-true}
 
 -- ---- lengths
 
@@ -71,6 +72,10 @@ chunk-chunk l o n p m h =
     let hin : p + i < n = omega arith in
     getD-chunk (chunk l o n) p m i him ∙ getD-chunk l o n (p + i) hin ∙ ap (λ (k : ℕ). getD l k 0) (omega arith) ∙ sym (getD-chunk l (o + p) m i him))
 
+-- a part that begins a part
+pub first-chunk : (l : List ℕ) (o n m : ℕ) → m ≤ n → chunk (chunk l o n) 0 m ≡ chunk l o m
+first-chunk l o n m h = chunk-chunk l o n 0 m (omega arith) ∙ ap (λ (k : ℕ). chunk l k m) (add-zero o)
+
 -- two parts, one behind the other
 pub chunk-add : (l : List ℕ) (o a b : ℕ) → chunk l o (a + b) ≡ chunk l o a ++ chunk l (o + a) b
 unfolding chunk
@@ -118,6 +123,10 @@ splice-splice l o xs n ys e h =
     ap (λ (r : List ℕ). r ++ (ys ++ drop (o + n + length ys) (take o l ++ (xs ++ d)))) head
     ∙ ap (λ (r : List ℕ). a ++ (ys ++ r)) tail
     ∙ simp append-assoc
+
+-- a store after other stores
+pub after : {a b c : List ℕ} (o : ℕ) (vs : List ℕ) → c ≡ splice a o vs → a ≡ b → c ≡ splice b o vs
+after o vs e p = e ∙ ap (λ (l : List ℕ). splice l o vs) p
 
 -- src written over the front of all that stands from o on, and put back behind what stands before o
 pub splice-front : (l : List ℕ) (o : ℕ) (src rest : List ℕ) → o + length src ≤ length l →
@@ -301,3 +310,61 @@ pub same-refl : (s : List ℕ) → sameBytes s s ≡ true
 unfolding sameBytes
 same-refl [] = refl
 same-refl (x ∷ s) = simp (eq-eqb x x refl, same-refl s)
+
+-- ---- a record's bytes, part by part
+
+-- parts of these widths, one behind the other from o on
+abbrev pub parts : List ℕ → ℕ → List ℕ → List (List ℕ)
+parts l o [] = []
+parts l o (w ∷ ws) = chunk l o w ∷ parts l (o + w) ws
+
+abbrev pub sum : List ℕ → ℕ
+sum [] = 0
+sum (w ∷ ws) = w + sum ws
+
+pub joined-parts : (l : List ℕ) (o : ℕ) (ws : List ℕ) → joined (parts l o ws) ≡ chunk l o (sum ws)
+unfolding chunk
+joined-parts l o [] = refl
+joined-parts l o (w ∷ ws) =
+    ap (λ (r : List ℕ). chunk l o w ++ r) (joined-parts l (o + w) ws) ∙ sym (chunk-add l o w (sum ws))
+
+pub chunk-whole : (l : List ℕ) (n : ℕ) → length l ≡ n → chunk l 0 n ≡ l
+unfolding chunk
+chunk-whole l n h = take-all n l (omega arith)
+
+-- what is, part by part, what stands there, is all of it
+pub joined-back : (c ws : List ℕ) {ps : List (List ℕ)} → ps ≡ parts c 0 ws → length c ≡ sum ws → joined ps ≡ c
+joined-back c ws e f = ap joined e ∙ joined-parts c 0 ws ∙ chunk-whole c (sum ws) f
+
+pub bytes-chunk : (l : List ℕ) (o n : ℕ) → Bytes l → Bytes (chunk l o n)
+unfolding chunk
+bytes-chunk l o n h i = go (decLt i n)
+  where
+    go : Dec (i < n) → getD (chunk l o n) i 0 < 256
+    go (yes lt) = rw (getD-chunk l o n i lt) (h (o + i))
+    go (no ge) =
+        let short : length (take n (drop o l)) ≤ i = simp length-take (omega arith) in
+        omega (arith, List·getD-eq-default (take n (drop o l)) 0 short)
+
+-- each part of a record that was read is the part that stands there
+pub u8-back : (l : List ℕ) (o : ℕ) → o + 1 ≤ length l → getD l o 0 ∷ [] ≡ chunk l o 1
+u8-back l o h = sym (chunk-at l o 0 h)
+
+pub number-back : (l : List ℕ) (o n : ℕ) → Bytes l → o + n ≤ length l → bytesOf n (le (chunk l o n)) ≡ chunk l o n
+number-back l o n b h =
+    ap (λ (k : ℕ). bytesOf k (le (chunk l o n))) (sym (length-chunk l o n h)) ∙ bytesOf-le (chunk l o n) (bytes-chunk l o n b)
+
+pub zeros-back : (l : List ℕ) (o n : ℕ) → o + n ≤ length l → zeroAt l o n ≡ true → zeros n ≡ chunk l o n
+unfolding every
+zeros-back l o n h z = ap zeros (sym (length-chunk l o n h)) ∙ go (chunk l o n) z
+  where
+    go : (s : List ℕ) → allAre 0 s ≡ true → zeros (length s) ≡ s
+    go [] e = refl
+    go (x ∷ s) e = let p = and-true _ _ e in cc (eqb-true x 0 (p .0), go s (p .1))
+
+-- a mark, and zeros, within a part
+pub marked-chunk : (l : List ℕ) (o n : ℕ) (mark : List ℕ) → 2 ≤ n → markedAt (chunk l o n) 0 mark ≡ markedAt l o mark
+marked-chunk l o n mark h = rw first-chunk
+
+pub zero-chunk : (l : List ℕ) (o n p k : ℕ) → p + k ≤ n → zeroAt (chunk l o n) p k ≡ zeroAt l (o + p) k
+zero-chunk l o n p k h = rw chunk-chunk

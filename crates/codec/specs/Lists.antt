@@ -3,10 +3,11 @@
 use mathlib.Core.Path.{_≡_, refl, ap, sym, _∙_}
 use Prim.Native.Nat.{ℕ, suc, _+_, _≤_, _<_}
 use native.Mathlib.Numerals.{add-one}
-use mathlib.Core.Bool.{Bool, true, false, _&&_, true≢false}
+use mathlib.Core.Bool.{Bool, true, false, _&&_, not, true≢false}
 use mathlib.Core.List.{List, [], _∷_}
 use lib.ListN.{length, getD, drop, drop-of-length-le}
 use lib.Seq.{drop-cons}
+use borrow.Author.Tests.{not-true, not-false}
 
 -- f holds of every element
 unfoldable pub every : {A : Type 0} → (A → Bool) → List A → Bool
@@ -35,3 +36,14 @@ and-go a b h e = e ∙ ap (λ (x : Bool). x && b) (sym h)
 pub and-true : (a b : Bool) → (a && b) ≡ true → (a ≡ true) × (b ≡ true)
 and-true true b h = (refl, h)
 and-true false b h = absurd (true≢false (sym h))
+
+pub and-right : (b : Bool) → (b && true) ≡ b
+and-right true = refl
+and-right false = refl
+
+-- what a callee's answer r says of the test a that it stands for, where `if !r` was taken and where it was left
+pub failed : {r a : Bool} → r ≡ a → not r ≡ true → a ≡ false
+failed {r} e h = sym e ∙ not-true r h
+
+pub passed : {r a : Bool} → r ≡ a → not r ≡ false → a ≡ true
+passed {r} e h = sym e ∙ not-false r h

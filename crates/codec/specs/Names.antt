@@ -6,13 +6,13 @@ use native.Mathlib.Omega.{arith}
 use mathlib.Core.Bool.{Bool, true, false, _&&_, not, cond}
 use mathlib.Core.List.{List, [], _∷_, _++_, append-nil}
 use native.Mathlib.Nat.{zero-add, sub-zero}
-use lib.ListN.{length, take, drop, length-drop}
-use lib.Seq.{drop-length, take-all}
+use lib.ListN.{length, getD, take, drop, length-drop}
+use lib.Seq.{drop-length, take-all, take-append-seam, drop-append-seam}
 use lib.Dec.{eqb, leb}
 use borrow.Author.Tests.{eqb-true, eq-eqb, le-leb, lt-leb}
 use Rattle.codec.specs.Bytes.{chunk, splice, u8At, u8, zeros, allAre, sameBytes}
-use Rattle.codec.specs.Lists.{every, and-true}
-use Rattle.codec.specs.Laws.{reads, same-eq, same-refl, splice-splice, written-out}
+use Rattle.codec.specs.Lists.{every, and-true, and-right}
+use Rattle.codec.specs.Laws.{reads, same-eq, same-refl, splice-splice, written-out, length-chunk, getD-chunk, chunk-chunk, u8-back, chunk-add}
 use Rattle.codec.specs.declared.name.Name.{Name}
 
 -- "Name: one length byte, then fifteen bytes": the name that stands at o, and the sixteen bytes of a name
@@ -95,3 +95,42 @@ name-parts n f h =
     let rest : take (15 - n .len) (drop (n .len) (n .bytes)) ≡ drop (n .len) (n .bytes) =
     take-all (15 - n .len) (drop (n .len) (n .bytes)) (simp length-drop (omega arith)) in
     simp (le-leb (n .len) 15 h, rest)
+
+-- ---- read back
+
+pub name-round : (n : Name) → length (n .bytes) ≡ 15 → nameAt (nameBytes n) 0 ≡ n
+unfolding chunk
+name-round n h = name-ext refl (sym (written-out (n .bytes) 15 h))
+
+pub name-back : (l : List ℕ) (o : ℕ) → o + 16 ≤ length l → nameBytes (nameAt l o) ≡ chunk l o 16
+name-back l o h =
+    let f : length (chunk l (o + 1) 15) ≡ 15 = length-chunk l (o + 1) 15 (omega arith) in
+    ap (λ (b : List ℕ). getD l o 0 ∷ b) (sym (written-out (chunk l (o + 1) 15) 15 f))
+    ∙ ap (λ (b : List ℕ). b ++ chunk l (o + 1) 15) (u8-back l o (omega arith))
+    ∙ sym (chunk-add l o 1 15)
+
+-- ---- what a caller gives
+
+all-zeros : (n : ℕ) → allAre 0 (zeros n) ≡ true
+unfolding every
+all-zeros zero = refl
+all-zeros (suc n) = all-zeros n
+
+-- the name made from a text is a name exactly if the text may be one
+pub name-from : (s : List ℕ) → isName (nameFrom s) ≡ isText s
+unfolding nameFrom isName isText
+name-from s = go (leb (length s) 15) refl
+  where
+    long : (b : Bool) → leb (length s) 15 ≡ false → false ≡ (b && (leb (length s) 15 && (clean s && not (leb (length s) 2 && allAre 46 s))))
+    long true e = simp e
+    long false e = refl
+
+    go : (b : Bool) → leb (length s) 15 ≡ b → isName (cond b (record { len = length s; bytes = s ++ zeros (15 - length s) }) noName) ≡ isText s
+    go true e = simp (e, take-append-seam, drop-append-seam, all-zeros (15 - length s)) (and-right _)
+    go false e = long (leb 1 (length s)) e
+
+-- a name within a part
+pub name-chunk : (l : List ℕ) (o n p : ℕ) → p + 16 ≤ n → nameAt (chunk l o n) p ≡ nameAt l (o + p)
+name-chunk l o n p h =
+    name-ext (getD-chunk l o n p (omega arith))
+    (chunk-chunk l o n (p + 1) 15 (omega arith) ∙ ap (λ (k : ℕ). chunk l k 15) {x = o + (p + 1)} {y = o + p + 1} (omega arith))

@@ -11,7 +11,7 @@ ghost use mathlib.Core.Path.{_≡_};
 ghost use Prim.Native.Nat.{ℕ, _+_, _≤_, _<_};
 ghost use mathlib.Core.List.{[], _∷_};
 ghost use lib.ListN.{length};
-ghost use Rattle.codec.specs.Bytes.{chunk, splice, u8, u32, u64, u8At, u32At, u64At, allAre, sameBytes};
+ghost use Rattle.codec.specs.Bytes.{chunk, splice, u8, u32, u64, u8At, u32At, u64At, allAre, sameBytes, markedAt, zeroAt};
 
 // A byte as a wider number. A cast of an element wants a proof that it fits; a cast of a parameter
 // does not.
@@ -149,4 +149,20 @@ pub fn same_bytes(a: &[u8], b: &[u8]) -> bool
         i += 1;
     }
     true
+}
+
+// Whether a record's mark stands at o.
+pub fn is_marked(t: &[u8], o: usize, mark: [u8; 2]) -> bool
+    requires { ⌜ o + 2 ≤ length (now t) ⌝ }
+    ensures { λ r. ⌜ r ≡ markedAt (now (t .entry)) o mark ⌝ }
+{
+    same_bytes(part(t, o, 2), &mark)
+}
+
+// Whether the n bytes from o on are zero.
+pub fn is_zero(t: &[u8], o: usize, n: usize) -> bool
+    requires { ⌜ o + n ≤ length (now t) ⌝ }
+    ensures { λ r. ⌜ r ≡ zeroAt (now (t .entry)) o n ⌝ }
+{
+    all_are(part(t, o, n), 0)
 }

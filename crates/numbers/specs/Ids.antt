@@ -38,5 +38,5 @@ unfoldable pub isStamp : ℕ → ℕ → Bool
 isStamp n s = leb 1 (clockOf s) && (ltb (clockOf s) (2 ^ 40) && isNode n (issuer s))
 
 -- "A version is 1 to 2^32-1."
-abbrev pub isVersion : ℕ → Bool
+unfoldable pub isVersion : ℕ → Bool
 isVersion v = leb 1 v && ltb v (2 ^ 32)

@@ -1,7 +1,7 @@
 // Ids, stamps and versions.
 ghost use mathlib.Core.Path.{_≡_};
 ghost use Prim.Native.Nat.{ℕ, _≤_, _<_};
-ghost use Rattle.numbers.specs.Ids.{idOf, maker, count, isMade, isId, stampOf, clockOf, issuer, isStamp};
+ghost use Rattle.numbers.specs.Ids.{idOf, maker, count, isMade, isId, stampOf, clockOf, isStamp, isVersion};
 
 // The id of a node's count-th file.
 pub fn id_of(node: u8, count: u32) -> u32
@@ -64,4 +64,11 @@ pub fn is_stamp(n: u8, stamp: u64) -> bool
         return false;
     }
     crate::nodes::is_node(n, stamp % 256)
+}
+
+// Whether v is a version.
+pub fn is_version(v: u32) -> bool
+    ensures { λ r. ⌜ r ≡ isVersion v ⌝ }
+{
+    1 <= v
 }

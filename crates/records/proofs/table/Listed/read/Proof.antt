@@ -1,0 +1,20 @@
+-- `records::table::Listed::read` meets its contract: each field from its place. Assumes nothing.
+use Rattle.records.specs.Tables.{listed-fields}
+use borrow.Author.Needs.{needs}
+use Rattle.records.proofs.table.Listed.read.Statement.{statement}
+use Rattle.records.proofs.table.Listed.read.Tie as tie
+
+read-requires : tie.Need-read-requires
+read-requires c κs = search needs
+
+add-get-u32 : tie.Need-add-get-u32
+add-get-u32 c = search needs
+
+get-u32-requires : tie.Need-get-u32-requires
+get-u32-requires c κs = search needs
+
+returns : tie.Need-returns
+returns c = simp listed-fields (cc)
+
+pub read-spec : {M : Type 1} → statement M
+read-spec = tie.close (tie.spec read-requires add-get-u32 get-u32-requires returns)

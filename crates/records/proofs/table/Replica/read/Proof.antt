@@ -1,0 +1,28 @@
+-- `records::table::Replica::read` meets its contract: each field from its place. Assumes nothing.
+use Rattle.records.specs.Tables.{replica-fields}
+use borrow.Author.Needs.{needs}
+use Rattle.records.proofs.table.Replica.read.Statement.{statement}
+use Rattle.records.proofs.table.Replica.read.Tie as tie
+
+read-requires : tie.Need-read-requires
+read-requires c κs = search needs
+
+add-get-u32 : tie.Need-add-get-u32
+add-get-u32 c = search needs
+
+get-u32-requires : tie.Need-get-u32-requires
+get-u32-requires c κs = search needs
+
+add-get-u8 : tie.Need-add-get-u8
+add-get-u8 c = search needs
+
+get-u8-requires : tie.Need-get-u8-requires
+get-u8-requires c κs = search needs
+
+returns : tie.Need-returns
+returns c = simp replica-fields (cc)
+
+pub read-spec : {M : Type 1} → statement M
+read-spec =
+    tie.close
+    (tie.spec read-requires add-get-u32 get-u32-requires add-get-u8 get-u8-requires returns)

@@ -1,0 +1,4 @@
+pub mod Entries
+pub mod Heads
+pub mod Messages
+pub mod Tables
