@@ -53,7 +53,7 @@ fn some_now(random: &mut Random, table: &Table) -> u64 {
         3 => 0,
         4 => table.highest.saturating_sub(1),
         5 => table.highest,
-        _ => table.highest + random.below(3),
+        _ => (table.highest + random.below(3)).min(LAST_CLOCK),
     }
 }
 
@@ -85,11 +85,12 @@ fn some_set(random: &mut Random, n: u8) -> u64 {
 }
 
 fn some_node(random: &mut Random, n: u8, own: u8) -> u64 {
-    match random.below(16) {
+    match random.below(20) {
         0 => 0,
         1 => u64::from(n) + 1,
         2 => u64::from(own),
-        3 => 256 + random.within(1..=n.into()),
+        3 => 256 + u64::from(n),
+        4 => random.number(),
         _ => random.within(1..=n.into()),
     }
 }

@@ -266,14 +266,6 @@ impl Tally {
         self.counts.iter().map(|row| row[number as usize]).sum()
     }
 
-    /// The sum of two tallies.
-    pub fn join(&mut self, other: &Tally) {
-        let ours = self.counts.iter_mut().flatten();
-        for (count, more) in ours.zip(other.counts.iter().flatten()) {
-            *count += more;
-        }
-    }
-
     /// The pairs of these calls that can be reached and were not.
     pub fn missing(&self, codes: &[u8]) -> Vec<(u8, u32)> {
         let pairs = reachable().filter(|(code, _)| codes.contains(code));

@@ -151,16 +151,10 @@ impl Watched<'_> {
         let made = checks::make(&self.service, call, bytes)?;
         let number = made.answer.number;
         self.covered.tally.add(call.code(), number);
-        honest(call, number)?;
-        if let (Call::Receive { now, message, .. }, 16 | 17) = (call, number) {
-            let push = read_back(message, table.n)?;
-            let after = outcome(table, *now, &push).map_err(|why| format!("{why:?} in 13"))?;
-            checks::receive_bounded(table, &push, &after)?;
+        match number {
+            0 => output_right(table, call, &made)?,
+            number => refusal_right(table, call, number)?,
         }
-        if !made.done() {
-            return Ok(made);
-        }
-        output_right(table, call, &made)?;
         if !made.changed {
             return Ok(made);
         }
@@ -192,12 +186,20 @@ impl Nodes for Watched<'_> {
 }
 
 /// In a cluster every table is sound and every message is what a node wrote, so 1, 4 and 13 are
-/// never given.
-fn honest(call: &Call, number: u32) -> Result<(), String> {
+/// never given. A receive that meets a limit is bounded all the same.
+fn refusal_right(table: &Table, call: &Call, number: u32) -> Result<(), String> {
     ensure(!matches!(number, 1 | 4 | 13), || {
-        let name = call_name(call.code());
-        format!("{name} was refused with {number}, in an honest cluster")
-    })
+        format!("refused with {number}, in an honest cluster")
+    })?;
+    match call {
+        Call::Receive { now, message, .. } if matches!(number, 16 | 17) => {
+            let push = read_back(message, table.n)?;
+            let after = outcome(table, *now, &push);
+            let after = after.map_err(|why| format!("at odds with the table: {why:?}"))?;
+            checks::receive_bounded(table, &push, &after)
+        }
+        _ => Ok(()),
+    }
 }
 
 fn read_back(message: &[u8], n: u8) -> Result<Push, String> {

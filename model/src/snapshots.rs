@@ -4,7 +4,6 @@ use crate::asked::Call;
 use crate::calls::Service;
 use crate::checks::{self, Made};
 use crate::random::Random;
-use crate::records::MOST_NODES;
 use crate::table::Table;
 use crate::traffic::{Nodes, Plan, Traffic};
 use crate::variant::Variant;
@@ -37,7 +36,6 @@ struct Plain {
 
 impl Plain {
     fn started(n: u8) -> Plain {
-        let n = n.min(MOST_NODES);
         Plain {
             tables: (1..=n).map(|node| Table::fresh(node, n)).collect(),
         }

@@ -92,7 +92,7 @@ impl Plan {
             Shape::Small if random.chance(12) => random.pick(&[5, 6, 7, 8]),
             Shape::Small => random.pick(&[1, 2, 2, 2, 3, 3, 3, 4]),
             Shape::Deep => random.pick(&[2, 2, 3]),
-            Shape::Crowded => random.pick(&[1, 2]),
+            Shape::Crowded => random.pick(&[1, 2, 2, 3]),
         };
         let (rounds, steps, names) = match shape {
             Shape::Small if n > 4 => (1, random.within(10..=40), 4),

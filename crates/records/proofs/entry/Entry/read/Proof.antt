@@ -1,6 +1,8 @@
 -- `records::entry::Entry::read` meets its contract: each field from its place. Assumes nothing.
-use Rattle.records.specs.Entries.{entry-fields}
+use mathlib.Core.Path.{sym, _∙_}
+use Rattle.records.specs.Entries.{entry-ext, entry-fields}
 use borrow.Author.Needs.{needs}
+use Rattle.records.specs.Entries.{entry-fields}
 use Rattle.records.proofs.entry.Entry.read.Statement.{statement}
 use Rattle.records.proofs.entry.Entry.read.Tie as tie
 
@@ -29,7 +31,9 @@ read-requires : tie.Need-read-requires
 read-requires c κs = search needs
 
 returns : tie.Need-returns
-returns c = simp entry-fields (cc)
+returns c =
+    entry-ext (c .before .before .before .get-u8 .ensures) (c .before .before .get-u32 .ensures) (c .before .get-u64 .ensures)
+    (c .read .ensures) ∙ sym (entry-fields _ _)
 
 pub read-spec : {M : Type 1} → statement M
 read-spec =

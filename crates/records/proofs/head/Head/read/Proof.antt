@@ -1,6 +1,8 @@
 -- `records::head::Head::read` meets its contract: each field from its place. Assumes nothing.
-use Rattle.records.specs.Heads.{head-fields}
+use mathlib.Core.Path.{sym, _∙_}
+use Rattle.records.specs.Heads.{head-ext, head-fields}
 use borrow.Author.Needs.{needs}
+use Rattle.records.specs.Heads.{head-fields}
 use Rattle.records.proofs.head.Head.read.Statement.{statement}
 use Rattle.records.proofs.head.Head.read.Tie as tie
 
@@ -53,7 +55,11 @@ read-requires : tie.Need-read-requires
 read-requires c κs = search needs
 
 returns : tie.Need-returns
-returns c = simp head-fields (cc)
+returns c =
+    head-ext (c .before .before .before .before .before .before .before .get-u8 .ensures) (c .before .before .before .before .before .before .get-u82 .ensures)
+    (c .before .before .before .before .before .get-u32 .ensures) (c .before .before .before .before .get-u64 .ensures)
+    (c .before .before .before .get-u83 .ensures) (c .before .before .get-u84 .ensures) (c .before .get-u322 .ensures)
+    (c .read .ensures) ∙ sym (head-fields _ _)
 
 pub read-spec : {M : Type 1} → statement M
 read-spec =

@@ -1,6 +1,8 @@
 -- `records::message::Acknowledgement::read` meets its contract: each field from its place. Assumes nothing.
-use Rattle.records.specs.Messages.{ack-fields}
+use mathlib.Core.Path.{sym, _∙_}
+use Rattle.records.specs.Messages.{ack-ext, ack-fields}
 use borrow.Author.Needs.{needs}
+use Rattle.records.specs.Messages.{ack-fields}
 use Rattle.records.proofs.message.Acknowledgement.read.Statement.{statement}
 use Rattle.records.proofs.message.Acknowledgement.read.Tie as tie
 
@@ -29,7 +31,9 @@ get-u32-requires-2 : tie.Need-get-u32-requires-2
 get-u32-requires-2 c κs = search needs
 
 returns : tie.Need-returns
-returns c = simp ack-fields (cc)
+returns c =
+    ack-ext (c .before .before .before .get-u8 .ensures) (c .before .before .get-u82 .ensures) (c .before .get-u32 .ensures)
+    (c .get-u322 .ensures) ∙ sym (ack-fields _ _)
 
 pub read-spec : {M : Type 1} → statement M
 read-spec =

@@ -1,6 +1,8 @@
 -- `records::message::PushHeader::read` meets its contract: each field from its place. Assumes nothing.
-use Rattle.records.specs.Messages.{push-fields}
+use mathlib.Core.Path.{sym, _∙_}
+use Rattle.records.specs.Messages.{push-ext, push-fields}
 use borrow.Author.Needs.{needs}
+use Rattle.records.specs.Messages.{push-fields}
 use Rattle.records.proofs.message.PushHeader.read.Statement.{statement}
 use Rattle.records.proofs.message.PushHeader.read.Tie as tie
 
@@ -35,7 +37,10 @@ get-u8-requires-4 : tie.Need-get-u8-requires-4
 get-u8-requires-4 c κs = search needs
 
 returns : tie.Need-returns
-returns c = simp push-fields (cc)
+returns c =
+    push-ext (c .before .before .before .before .get-u8 .ensures) (c .before .before .before .get-u82 .ensures)
+    (c .before .before .get-u32 .ensures) (c .before .get-u83 .ensures) (c .get-u84 .ensures) ∙ sym (push-fields
+    _ _)
 
 pub read-spec : {M : Type 1} → statement M
 read-spec =

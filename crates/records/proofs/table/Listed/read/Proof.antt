@@ -1,6 +1,8 @@
 -- `records::table::Listed::read` meets its contract: each field from its place. Assumes nothing.
-use Rattle.records.specs.Tables.{listed-fields}
+use mathlib.Core.Path.{sym, _∙_}
+use Rattle.records.specs.Tables.{listed-ext, listed-fields}
 use borrow.Author.Needs.{needs}
+use Rattle.records.specs.Tables.{listed-fields}
 use Rattle.records.proofs.table.Listed.read.Statement.{statement}
 use Rattle.records.proofs.table.Listed.read.Tie as tie
 
@@ -14,7 +16,7 @@ get-u32-requires : tie.Need-get-u32-requires
 get-u32-requires c κs = search needs
 
 returns : tie.Need-returns
-returns c = simp listed-fields (cc)
+returns c =  listed-ext (c .before .read .ensures) (c .get-u32 .ensures) ∙ sym (listed-fields _ _)
 
 pub read-spec : {M : Type 1} → statement M
 read-spec = tie.close (tie.spec read-requires add-get-u32 get-u32-requires returns)

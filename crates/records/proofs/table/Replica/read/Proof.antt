@@ -1,6 +1,8 @@
 -- `records::table::Replica::read` meets its contract: each field from its place. Assumes nothing.
-use Rattle.records.specs.Tables.{replica-fields}
+use mathlib.Core.Path.{sym, _∙_}
+use Rattle.records.specs.Tables.{replica-ext, replica-fields}
 use borrow.Author.Needs.{needs}
+use Rattle.records.specs.Tables.{replica-fields}
 use Rattle.records.proofs.table.Replica.read.Statement.{statement}
 use Rattle.records.proofs.table.Replica.read.Tie as tie
 
@@ -20,7 +22,9 @@ get-u8-requires : tie.Need-get-u8-requires
 get-u8-requires c κs = search needs
 
 returns : tie.Need-returns
-returns c = simp replica-fields (cc)
+returns c =
+    replica-ext (c .before .before .read .ensures) (c .before .get-u32 .ensures) (c .get-u8 .ensures) ∙ sym
+    (replica-fields _ _)
 
 pub read-spec : {M : Type 1} → statement M
 read-spec =

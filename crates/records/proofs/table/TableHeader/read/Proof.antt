@@ -1,6 +1,8 @@
 -- `records::table::TableHeader::read` meets its contract: each field from its place. Assumes nothing.
-use Rattle.records.specs.Tables.{table-fields}
+use mathlib.Core.Path.{sym, _∙_}
+use Rattle.records.specs.Tables.{table-ext, table-fields}
 use borrow.Author.Needs.{needs}
+use Rattle.records.specs.Tables.{table-fields}
 use Rattle.records.proofs.table.TableHeader.read.Statement.{statement}
 use Rattle.records.proofs.table.TableHeader.read.Tie as tie
 
@@ -29,7 +31,9 @@ get-u64-requires : tie.Need-get-u64-requires
 get-u64-requires c κs = search needs
 
 returns : tie.Need-returns
-returns c = simp table-fields (cc)
+returns c =
+    table-ext (c .before .before .before .get-u8 .ensures) (c .before .before .get-u82 .ensures) (c .before .get-u32 .ensures)
+    (c .get-u64 .ensures) ∙ sym (table-fields _ _)
 
 pub read-spec : {M : Type 1} → statement M
 read-spec =
