@@ -220,18 +220,18 @@ pub const MALFORMED: [&str; 9] = [
     "code", "slot", "padding", "output", "payload", "load", "poke", "header", "cut",
 ];
 
-/// A request that is malformed in this way, if there is such a way.
+/// A request that is malformed in this way, if there is such a way. It asks for no call.
 fn malformed(what: &str) -> Option<Vec<u8>> {
-    let pending = |slot, room, payload| header(11, slot, [0; 5], room, payload);
+    let show = |slot, room, payload| header(SHOW, slot, [0; 5], room, payload);
     let mut bytes = match what {
         "code" => header(99, 0, [0; 5], 0, 0),
-        "slot" => pending(8, 0, 0),
-        "output" => pending(0, LONGEST_OUTPUT + 1, 0),
-        "payload" => pending(0, 0, LONGEST_PAYLOAD + 1),
+        "slot" => show(8, 0, 0),
+        "output" => show(0, LONGEST_OUTPUT + 1, 0),
+        "payload" => show(0, 0, LONGEST_PAYLOAD + 1),
         "load" => header(LOAD, 0, [0; 5], 0, LONGEST_TABLE + 1),
         "poke" => header(POKE, 0, [u64::MAX, 0, 0, 0, 0], 0, 1),
         "cut" => header(LOAD, 0, [0; 5], 0, 2),
-        "padding" | "header" => pending(0, 0, 0),
+        "padding" | "header" => show(0, 0, 0),
         _ => return None,
     }
     .to_vec();

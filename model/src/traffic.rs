@@ -85,14 +85,14 @@ impl Plan {
     pub fn draw(random: &mut Random) -> Plan {
         let shape = match random.below(100) {
             0..=79 => Shape::Small,
-            80..=96 => Shape::Deep,
+            80..=97 => Shape::Deep,
             _ => Shape::Crowded,
         };
         let n = match shape {
             Shape::Small if random.chance(12) => random.pick(&[5, 6, 7, 8]),
             Shape::Small => random.pick(&[1, 2, 2, 2, 3, 3, 3, 4]),
             Shape::Deep => random.pick(&[2, 2, 3]),
-            Shape::Crowded => random.pick(&[1, 2, 2, 3]),
+            Shape::Crowded => random.pick(&[1, 2, 2, 1, 2, 3]),
         };
         let (rounds, steps, names) = match shape {
             Shape::Small if n > 4 => (1, random.within(10..=40), 4),
@@ -326,9 +326,11 @@ impl<N: Nodes> Traffic<N> {
         let node = self.node();
         let roll = self.random.below(100);
         match (self.plan.shape, roll) {
-            (Shape::Crowded, 0..=34) | (_, 0..=24) => self.create(node, Kind::File),
-            (Shape::Crowded, 35..=44) | (_, 25..=41) => self.create(node, Kind::Directory),
-            (Shape::Crowded, 45..=96) | (_, 42..=66) => self.rename(node),
+            (Shape::Crowded, 29..=96) => self.rename(node),
+            (Shape::Crowded, 20..=28) => self.create(node, Kind::Directory),
+            (_, 0..=24) => self.create(node, Kind::File),
+            (_, 25..=41) => self.create(node, Kind::Directory),
+            (_, 42..=66) => self.rename(node),
             (_, 67..=78) => self.unlink(node),
             (_, 79..=91) => self.remove(node),
             _ => self.spread(node),

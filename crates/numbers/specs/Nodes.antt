@@ -5,13 +5,17 @@ use Prim.Native.Nat.{ℕ, zero, suc, _+_, _-_, _/_, _%_, _^_}
 use lib.Dec.{eqb, leb, ltb}
 use lib.Bits.{bitOr, bitXor}
 
+-- x is low to high
+abbrev pub isWithin : ℕ → ℕ → ℕ → Bool
+isWithin low x high = leb low x && leb x high
+
 -- "A name service for 1 to 8 nodes."
 abbrev pub isSize : ℕ → Bool
-isSize n = leb 1 n && leb n 8
+isSize n = isWithin 1 n 8
 
 -- "Node: 1 to N"
 abbrev pub isNode : ℕ → ℕ → Bool
-isNode n i = leb 1 i && leb i n
+isNode n i = isWithin 1 i n
 
 -- "Node set: one byte, bit i-1 for node i": whether node i is in the set s
 unfoldable pub has : ℕ → ℕ → Bool

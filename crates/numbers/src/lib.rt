@@ -6,3 +6,15 @@ pub mod nodes;
 
 pub use clock::Clock;
 pub use clock::Ticked;
+ghost use mathlib.Core.Path.{_≡_};
+ghost use Rattle.numbers.specs.Nodes.{isWithin};
+
+// Whether x is low to high.
+pub fn is_within(low: u64, x: u64, high: u64) -> bool
+    ensures { λ r. ⌜ r ≡ isWithin low x high ⌝ }
+{
+    if x < low {
+        return false;
+    }
+    x <= high
+}

@@ -7,20 +7,14 @@ ghost use Rattle.numbers.specs.Nodes.{isSize, isNode, isSet, has, single
 pub fn is_size(n: u64) -> bool
     ensures { λ r. ⌜ r ≡ isSize n ⌝ }
 {
-    if n < 1 {
-        return false;
-    }
-    n <= 8
+    crate::is_within(1, n, 8)
 }
 
 // Whether i is one of n nodes.
 pub fn is_node(n: u8, i: u64) -> bool
     ensures { λ r. ⌜ r ≡ isNode n i ⌝ }
 {
-    if i < 1 {
-        return false;
-    }
-    i <= n as u64
+    crate::is_within(1, i, n as u64)
 }
 
 // Whether s has no bit above n.

@@ -13,13 +13,9 @@ use Rattle.codec.specs.Bytes.{chunk, splice, le, bytesOf, u8, u32, u64, u8At, u
 use Rattle.codec.specs.Laws.{getD-chunk, chunk-chunk, le-bytesOf, written-out, splices-splice, same-eq, joined-back, marked-chunk, zero-chunk, u8-back, number-back, zeros-back}
 use Rattle.codec.specs.Lists.{every, and-true}
 use Rattle.codec.specs.Names.{nameAt, nameBytes, noName, isName, sameName, name-ext, name-back, name-chunk, same-name-eq}
-use Rattle.numbers.specs.Nodes.{isSet, all}
+use Rattle.numbers.specs.Nodes.{isWithin, isSet, all}
 use Rattle.numbers.specs.Ids.{isId, isMade, isStamp}
 use Rattle.records.specs.declared.head.Head.{Head}
-
--- low to high
-abbrev pub isWithin : ℕ → ℕ → ℕ → Bool
-isWithin low x high = leb low x && leb x high
 
 -- "Head records have 40 bytes and mark 48 44: kind (1 file, 2 directory), live (0/1), id u32, stamp u64, holders u8,
 -- depth u8, two zeros, place directory u32, place name 16."

@@ -1,4 +1,2 @@
 pub mod Entries
 pub mod Heads
-pub mod Messages
-pub mod Tables

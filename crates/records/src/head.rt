@@ -142,7 +142,7 @@ impl Head {
         requires { ⌜ n ≤ 8 ⌝ }
         ensures { λ r. ⌜ r ≡ isOrdinary n self ⌝ }
     {
-        if !crate::is_within(1, self.kind as u32, 2) {
+        if !numbers::is_within(1, self.kind as u64, 2) {
             return false;
         }
         if 1 < self.live {
@@ -157,7 +157,7 @@ impl Head {
         if !nodes::is_set(n, self.holders as u64) {
             return false;
         }
-        if !crate::is_within(1, self.depth as u32, 16) {
+        if !numbers::is_within(1, self.depth as u64, 16) {
             return false;
         }
         if !ids::is_id(n, self.directory) {
