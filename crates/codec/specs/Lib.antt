@@ -1,4 +1,3 @@
 pub mod Bytes
 pub mod Laws
 pub mod Lists
-pub mod Names

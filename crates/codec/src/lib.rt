@@ -1,12 +1,9 @@
 // Bytes: little-endian numbers of one, four and eight bytes at an offset, a part of a byte string, a
-// part replaced; and, in `name`, names.
+// part replaced, marks and zeros.
 //
 // What a record means is not known here. A function that reads or writes at an offset asks that the
 // place lies within the slice, and its answer is one equation with a definition of specs/. A number
 // is never wider than its field, so nothing is cut off.
-pub mod name;
-
-pub use name::Name;
 ghost use mathlib.Core.Path.{_≡_};
 ghost use Prim.Native.Nat.{ℕ, _+_, _≤_, _<_};
 ghost use mathlib.Core.List.{[], _∷_};

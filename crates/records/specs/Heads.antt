@@ -12,7 +12,7 @@ use borrow.Author.Tests.{eqb-true}
 use Rattle.codec.specs.Bytes.{chunk, splice, le, bytesOf, u8, u32, u64, u8At, u32At, u64At, zeros, joined, sameBytes, markedAt, zeroAt, Bytes}
 use Rattle.codec.specs.Laws.{getD-chunk, chunk-chunk, le-bytesOf, written-out, splices-splice, same-eq, joined-back, marked-chunk, zero-chunk, u8-back, number-back, zeros-back}
 use Rattle.codec.specs.Lists.{every, and-true}
-use Rattle.codec.specs.Names.{nameAt, nameBytes, noName, isName, sameName, name-ext, name-back, name-chunk, same-name-eq}
+use Rattle.names.specs.Names.{nameAt, nameBytes, noName, isName, sameName, name-ext, name-back, name-chunk, same-name-eq}
 use Rattle.numbers.specs.Nodes.{isWithin, isSet, all}
 use Rattle.numbers.specs.Ids.{isId, isMade, isStamp}
 use Rattle.records.specs.declared.head.Head.{Head}

@@ -1,5 +1,5 @@
 // Entries: what a directory says of a child.
-use codec::Name;
+use names::Name;
 use numbers::ids;
 ghost use mathlib.Core.Path.{_≡_};
 ghost use Prim.Native.Nat.{ℕ, _+_, _≤_};

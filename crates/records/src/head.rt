@@ -1,5 +1,5 @@
 // Heads: what a replica is, without what its table alone knows of it.
-use codec::Name;
+use names::Name;
 use numbers::ids;
 use numbers::nodes;
 ghost use mathlib.Core.Path.{_≡_};
@@ -97,7 +97,7 @@ impl Head {
     }
 
     // Whether every field is in its range.
-    pub fn fits(self, n: u8) -> bool
+    fn fits(self, n: u8) -> bool
         requires { ⌜ n ≤ 8 ⌝ }
         ensures { λ r. ⌜ r ≡ headFits n self ⌝ }
     {

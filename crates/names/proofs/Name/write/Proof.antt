@@ -1,14 +1,14 @@
--- `codec::name::Name::write` meets its contract: the length, and the fifteen bytes behind it. Assumes nothing.
+-- `names::Name::write` meets its contract: the length, and the fifteen bytes behind it. Assumes nothing.
 use native.Mathlib.Omega.{arith}
 use lib.ListN.{length}
 use mathlib.Core.Path.{_≡_, ap}
 use Prim.Native.Nat.{_+_}
 use Rattle.codec.specs.Bytes.{u8}
 use Rattle.codec.specs.Laws.{length-splice}
-use Rattle.codec.specs.Names.{name-put}
+use Rattle.names.specs.Names.{name-put}
 use borrow.Author.Needs.{needs}
-use Rattle.codec.proofs.name.Name.write.Statement.{statement}
-use Rattle.codec.proofs.name.Name.write.Tie as tie
+use Rattle.names.proofs.Name.write.Statement.{statement}
+use Rattle.names.proofs.Name.write.Tie as tie
 
 put-u8-requires : tie.Need-put-u8-requires
 put-u8-requires c κs = search needs

@@ -1,15 +1,15 @@
--- `codec::name::Name::read` meets its contract: fifteen bytes copied over fifteen zeros are those bytes. Assumes nothing.
+-- `names::Name::read` meets its contract: fifteen bytes copied over fifteen zeros are those bytes. Assumes nothing.
 use native.Mathlib.Omega.{arith}
 use lib.ListN.{length}
 use mathlib.Core.Path.{_≡_, refl, ap, _∙_}
 use Prim.Native.Nat.{_+_}
 use Rattle.codec.specs.Bytes.{chunk, zeros}
 use Rattle.codec.specs.Laws.{length-chunk}
-use Rattle.codec.specs.Names.{splice-whole, name-ext}
+use Rattle.names.specs.Names.{splice-whole, name-ext}
 use mathlib.Core.Path.{ap}
 use borrow.Author.Needs.{needs}
-use Rattle.codec.proofs.name.Name.read.Statement.{statement}
-use Rattle.codec.proofs.name.Name.read.Tie as tie
+use Rattle.names.proofs.Name.read.Statement.{statement}
+use Rattle.names.proofs.Name.read.Tie as tie
 
 slice-aggregate-replace : tie.Need-slice-aggregate-replace
 slice-aggregate-replace c = search needs

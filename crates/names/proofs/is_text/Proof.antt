@@ -1,9 +1,9 @@
--- `codec::name::is_text` meets its contract: its tests, in the order of the definition. Assumes nothing.
+-- `names::is_text` meets its contract: its tests, in the order of the definition. Assumes nothing.
 use borrow.Author.Tests.{lt-leb, le-leb, not-true, not-false}
-use Rattle.codec.specs.Names.{isText}
+use Rattle.names.specs.Names.{isText}
 use borrow.Author.Needs.{needs}
-use Rattle.codec.proofs.name.is_text.Statement.{statement}
-use Rattle.codec.proofs.name.is_text.Tie as tie
+use Rattle.names.proofs.is_text.Statement.{statement}
+use Rattle.names.proofs.is_text.Tie as tie
 
 returns : tie.Need-returns
 unfolding isText

@@ -1,9 +1,9 @@
--- `codec::name::Name::same` meets its contract: the lengths, then the bytes. Assumes nothing.
+-- `names::Name::same` meets its contract: the lengths, then the bytes. Assumes nothing.
 use borrow.Author.Tests.{eq-eqb, ne-eqb}
-use Rattle.codec.specs.Names.{sameName}
+use Rattle.names.specs.Names.{sameName}
 use borrow.Author.Needs.{needs}
-use Rattle.codec.proofs.name.Name.same.Statement.{statement}
-use Rattle.codec.proofs.name.Name.same.Tie as tie
+use Rattle.names.proofs.Name.same.Statement.{statement}
+use Rattle.names.proofs.Name.same.Tie as tie
 
 returns : tie.Need-returns
 unfolding sameName

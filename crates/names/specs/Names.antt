@@ -1,4 +1,4 @@
--- Names: their bytes, when one is a name, and when two are the same. What the contracts of `codec::name` cite.
+-- Names: their bytes, when one is a name, and when two are the same. What the contracts of `names` cite.
 -- Assumes nothing.
 use mathlib.Core.Path.{_≡_, refl, ap, sym, _∙_}
 use Prim.Native.Nat.{ℕ, zero, suc, _+_, _-_, _<_, _≤_}
@@ -10,10 +10,10 @@ use lib.ListN.{length, getD, take, drop, length-drop}
 use lib.Seq.{drop-length, take-all, take-append-seam, drop-append-seam}
 use lib.Dec.{eqb, leb}
 use borrow.Author.Tests.{eqb-true, eq-eqb, le-leb, lt-leb}
 use Rattle.codec.specs.Bytes.{chunk, splice, u8At, u8, zeros, allAre, sameBytes}
 use Rattle.codec.specs.Lists.{every, and-true, and-right}
 use Rattle.codec.specs.Laws.{reads, same-eq, same-refl, splice-splice, written-out, length-chunk, getD-chunk, chunk-chunk, u8-back, chunk-add}
-use Rattle.codec.specs.declared.name.Name.{Name}
+use Rattle.names.specs.declared.Name.{Name}
 
 -- "Name: one length byte, then fifteen bytes": the name that stands at o, and the sixteen bytes of a name
 abbrev pub nameAt : List ℕ → ℕ → Name

@@ -3,8 +3,8 @@
 ghost use mathlib.Core.Path.{_≡_};
 ghost use Prim.Native.Nat.{ℕ, _+_, _≤_};
 ghost use lib.ListN.{length};
 ghost use Rattle.codec.specs.Bytes.{sameBytes, splice};
-ghost use Rattle.codec.specs.Names.{nameAt, nameBytes, noName, nameFrom, sameName, clean, isText, isName};
+ghost use Rattle.names.specs.Names.{nameAt, nameBytes, noName, nameFrom, sameName, clean, isText, isName};
 
 pub struct Name {
     pub len: u8,
@@ -29,7 +29,7 @@ fn is_clean(s: &[u8]) -> bool
 }
 
 // Whether s may be the text of a name.
-pub fn is_text(s: &[u8]) -> bool
+fn is_text(s: &[u8]) -> bool
     ensures { λ r. ⌜ r ≡ isText (now (s .entry)) ⌝ }
 {
     if s.len() < 1 {
@@ -44,7 +44,7 @@ pub fn is_text(s: &[u8]) -> bool
     if 2 < s.len() {
         return true;
     }
-    !crate::all_are(s, 46)
+    !codec::all_are(s, 46)
 }
 
 impl Name {
@@ -69,7 +69,7 @@ impl Name {
             return Name::none();
         }
         let mut bytes = [0u8; 15];
-        crate::replace(&mut bytes, 0, s);
+        codec::replace(&mut bytes, 0, s);
         Name {
             len: s.len() as u8,
             bytes,
@@ -82,7 +82,7 @@ impl Name {
         ensures { λ r. ⌜ r ≡ nameAt (now (t .entry)) o ⌝ }
     {
         let mut bytes = [0u8; 15];
-        crate::replace(&mut bytes, 0, crate::part(t, o + 1, 15));
+        codec::replace(&mut bytes, 0, codec::part(t, o + 1, 15));
         Name { len: t[o], bytes }
     }
 
@@ -92,8 +92,8 @@ impl Name {
         ensures { λ _. ⌜ now (t .exit) ≡ splice (now (t .entry)) o (nameBytes self) ⌝ }
     {
         let bytes = self.bytes;
-        crate::put_u8(t, o, self.len);
-        crate::replace(t, o + 1, &bytes);
+        codec::put_u8(t, o, self.len);
+        codec::replace(t, o + 1, &bytes);
     }
 
     // Whether two names are the same.
@@ -105,7 +105,7 @@ impl Name {
         }
         let mine = self.bytes;
         let theirs = other.bytes;
-        crate::same_bytes(&mine, &theirs)
+        codec::same_bytes(&mine, &theirs)
     }
 
     // Whether this is a name.
@@ -117,9 +117,9 @@ impl Name {
         if 15 < len {
             return false;
         }
-        if !is_text(crate::part(&bytes, 0, len)) {
+        if !is_text(codec::part(&bytes, 0, len)) {
             return false;
         }
-        crate::all_are(crate::part(&bytes, len, 15 - len), 0)
+        codec::all_are(codec::part(&bytes, len, 15 - len), 0)
     }
 }

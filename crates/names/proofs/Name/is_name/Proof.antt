@@ -1,14 +1,14 @@
--- `codec::name::Name::is_name` meets its contract: the length, the bytes used, and the others. Assumes nothing.
+-- `names::Name::is_name` meets its contract: the length, the bytes used, and the others. Assumes nothing.
 use native.Mathlib.Omega.{arith}
 use mathlib.Core.Path.{_≡_, ap, sym, _∙_}
 use lib.ListN.{length}
 use borrow.Author.Tests.{lt-leb, not-true, not-false}
 use Rattle.codec.specs.Bytes.{allAre}
 use Rattle.codec.specs.Lists.{and-stop, and-go}
-use Rattle.codec.specs.Names.{isText, isName, name-parts}
+use Rattle.names.specs.Names.{isText, isName, name-parts}
 use borrow.Author.Needs.{needs}
-use Rattle.codec.proofs.name.Name.is_name.Statement.{statement}
-use Rattle.codec.proofs.name.Name.is_name.Tie as tie
+use Rattle.names.proofs.Name.is_name.Statement.{statement}
+use Rattle.names.proofs.Name.is_name.Tie as tie
 
 cast-len : tie.Need-cast-len
 cast-len c = search needs

@@ -1,4 +1,4 @@
--- `codec::name::is_clean` meets its contract. The loop's invariant: all are clean exactly if those from i on are.
+-- `names::is_clean` meets its contract. The loop's invariant: all are clean exactly if those from i on are.
 -- Assumes nothing.
 use Prim.Native.Nat.{_+_, _-_, _≤_, _<_}
 use mathlib.Core.Path.{_≡_, refl, sym, _∙_}
@@ -6,10 +6,10 @@ use native.Mathlib.Omega.{arith}
 use lib.ListN.{length, drop}
 use borrow.Author.Tests.{eq-eqb, ne-eqb}
 use borrow.Author.Needs.{needs}
-use Rattle.codec.specs.Names.{clean}
+use Rattle.names.specs.Names.{clean}
 use Rattle.codec.specs.Lists.{every-step, every-none}
-use Rattle.codec.proofs.name.is_clean.Statement.{statement}
-use Rattle.codec.proofs.name.is_clean.Tie as tie
+use Rattle.names.proofs.is_clean.Statement.{statement}
+use Rattle.names.proofs.is_clean.Tie as tie
 
 abbrev Inv-loop : tie.InvT-loop
 Inv-loop s i₀ i = (i ≤ length s) × (clean s ≡ clean (drop i s))

@@ -1,11 +1,11 @@
--- `codec::name::Name::from` meets its contract: a text copied over zeros is followed by zeros. Assumes nothing.
+-- `names::Name::from` meets its contract: a text copied over zeros is followed by zeros. Assumes nothing.
 use mathlib.Core.Path.{_∙_, refl}
-use Rattle.codec.specs.Names.{from-short, from-long, name-ext}
+use Rattle.names.specs.Names.{from-short, from-long, name-ext}
 use mathlib.Core.Path.{_∙_}
-use Rattle.codec.specs.Names.{from-short, from-long}
+use Rattle.names.specs.Names.{from-short, from-long}
 use borrow.Author.Needs.{needs}
-use Rattle.codec.proofs.name.Name.from.Statement.{statement}
-use Rattle.codec.proofs.name.Name.from.Tie as tie
+use Rattle.names.proofs.Name.from.Statement.{statement}
+use Rattle.names.proofs.Name.from.Tie as tie
 
 none-requires : tie.Need-none-requires
 none-requires c κs = search needs
