@@ -56,94 +56,94 @@ sameId a b = eqb (a .head .id) (b .head .id)
 abbrev pub idsUnique : Table → Bool
 idsUnique t = distinct sameId (t .replicas)
 
--- ---- "holders include the maker and the own node": the root has no maker
+-- ---- what each replica r of a table t keeps
 
+-- "holders include the maker and the own node": the root has no maker
 abbrev pub makerHolds : Head → Bool
 makerHolds h = isRootId h || has (h .holders) (maker (h .id))
 
-abbrev pub holdersInclude : Table → Bool
-holdersInclude t = every (λ (r : Replica). makerHolds (r .head) && has (r .head .holders) (t .own)) (t .replicas)
+abbrev pub holdersInclude : Table → Replica → Bool
+holdersInclude t r = makerHolds (r .head) && has (r .head .holders) (t .own)
 
--- ---- "pending is within holders without the own node"
+-- "pending is within holders without the own node"
+abbrev pub isPartOf : ℕ → ℕ → Bool
+isPartOf a b = eqb (join a b) b
 
-abbrev pub isWithinSet : ℕ → ℕ → Bool
-isWithinSet a b = eqb (join a b) b
+abbrev pub pendingWithin : Table → Replica → Bool
+pendingWithin t r = isPartOf (r .pending) (without (r .head .holders) (t .own))
 
-abbrev pub pendingWithin : Table → Bool
-pendingWithin t = every (λ (r : Replica). isWithinSet (r .pending) (without (r .head .holders) (t .own))) (t .replicas)
+-- "replica ids of own making below the next count"
+abbrev pub ownBelowNext : Table → Replica → Bool
+ownBelowNext t r = not (eqb (maker (r .head .id)) (t .own)) || ltb (count (r .head .id)) (t .next)
 
--- ---- "replica ids of own making below the next count"
+-- "For each replica but the root, its place directory is held, is a directory, is one less deep; a live replica's is
+-- live."
+abbrev pub isPlaceOf : Head → Head → Bool
+isPlaceOf h p = isDirectory p && (eqb (p .depth + 1) (h .depth) && (not (isLive h) || isLive p))
 
-abbrev pub ownBelowNext : Table → Bool
-ownBelowNext t =
-    every (λ (r : Replica). not (eqb (maker (r .head .id)) (t .own)) || ltb (count (r .head .id)) (t .next)) (t .replicas)
+abbrev pub placeHeld : Table → Replica → Bool
+placeHeld t r = isRootId (r .head) || heldAnd (isPlaceOf (r .head)) (headOf t (r .head .directory))
 
--- ---- "For each replica but the root, its place directory is held, is a directory, is one less deep; a live replica's
--- is live."
+-- "at most 32 entries in a directory"
+abbrev pub notCrowded : Table → Replica → Bool
+notCrowded t r = leb (length (entriesOf (r .head .id) (t .entries))) 32
 
-abbrev pub placed : Head → Head → Bool
-placed h p = isDirectory p && (eqb (p .depth + 1) (h .depth) && (not (isLive h) || isLive p))
+-- "Each live replica but the root has an entry at its place with a stamp not below its own, and live if equal."
+abbrev pub shows : Head → Option Entry → Bool
+shows h none = false
+shows h (some e) = leb (h .stamp) (e .stamp) && (not (eqb (h .stamp) (e .stamp)) || eqb (e .live) 1)
 
-abbrev pub placesHeld : Table → Bool
-placesHeld t =
-    every (λ (r : Replica). isRootId (r .head) || heldAnd (placed (r .head)) (headOf t (r .head .directory))) (t .replicas)
+abbrev pub placeShown : Table → Replica → Bool
+placeShown t r =
+    not (isLive (r .head))
+    || (isRootId (r .head) || shows (r .head) (entryOf t (r .head .directory) (r .head .id) (r .head .name)))
 
--- ---- "Each entry's directory is held, is a directory and less than 16 deep"
+-- "All clocks are at most the highest seen."
+abbrev pub clockSeen : Table → ℕ → Bool
+clockSeen t stamp = leb (clockOf stamp) (t .highest)
 
-abbrev pub lists : Head → Bool
-lists p = isDirectory p && ltb (p .depth) 16
+unfoldable pub replicaKeeps : Table → Replica → Bool
+replicaKeeps t r =
+    holdersInclude t r && (pendingWithin t r && (ownBelowNext t r && (placeHeld t r && (notCrowded t r && (placeShown t r
+    && clockSeen t (r .head .stamp))))))
 
-abbrev pub directoriesHeld : Table → Bool
-directoriesHeld t = every (λ (x : Listed). heldAnd lists (headOf t (x .directory))) (t .entries)
+-- ---- what each entry x of a table t keeps
 
--- ---- "its child isn't the root"
+-- "Each entry's directory is held, is a directory and less than 16 deep"
+abbrev pub isParent : Head → Bool
+isParent p = isDirectory p && ltb (p .depth) 16
 
-abbrev pub childrenNotRoot : Table → Bool
-childrenNotRoot t = every (λ (x : Listed). not (eqb (x .entry .child) 0)) (t .entries)
+abbrev pub directoryHeld : Table → Listed → Bool
+directoryHeld t x = heldAnd isParent (headOf t (x .directory))
 
--- ---- "directory, child and name together are unique"
+-- "its child isn't the root"
+abbrev pub childNotRoot : Listed → Bool
+childNotRoot x = not (eqb (x .entry .child) 0)
 
+unfoldable pub entryKeeps : Table → Listed → Bool
+entryKeeps t x = directoryHeld t x && (childNotRoot x && clockSeen t (x .entry .stamp))
+
+-- "directory, child and name together are unique"
 abbrev pub sameKey : Listed → Listed → Bool
 sameKey a b = isKey (a .directory) (a .entry .child) (a .entry .name) b
 
 abbrev pub keysUnique : Table → Bool
 keysUnique t = distinct sameKey (t .entries)
 
--- ---- "at most 32 entries in a directory"
-
-abbrev pub noneCrowded : Table → Bool
-noneCrowded t = every (λ (r : Replica). leb (length (entriesOf (r .head .id) (t .entries))) 32) (t .replicas)
-
--- ---- "Each live replica but the root has an entry at its place with a stamp not below its own, and live if equal."
-
-abbrev pub shows : Head → Option Entry → Bool
-shows h none = false
-shows h (some e) = leb (h .stamp) (e .stamp) && (not (eqb (h .stamp) (e .stamp)) || eqb (e .live) 1)
-
-abbrev pub placesShown : Table → Bool
-placesShown t =
-    every
-    (λ (r : Replica).
-    not (isLive (r .head)) || (isRootId (r .head) || shows (r .head) (entryOf t (r .head .directory) (r .head .id) (r .head .name))))
-    (t .replicas)
-
--- ---- "All clocks are at most the highest seen."
-
-abbrev pub clocksSeen : Table → Bool
-clocksSeen t =
-    every (λ (r : Replica). leb (clockOf (r .head .stamp)) (t .highest)) (t .replicas)
-    && every (λ (x : Listed). leb (clockOf (x .entry .stamp)) (t .highest)) (t .entries)
-
 -- ---- all of it: the rules beyond the ranges, and a sound table
 
 unfoldable pub rules : Table → Bool
 rules t =
-    rootFirst t && (idsUnique t && (holdersInclude t && (pendingWithin t && (ownBelowNext t && (placesHeld t
-    && (directoriesHeld t && (childrenNotRoot t && (keysUnique t && (noneCrowded t && (placesShown t && clocksSeen t))))))))))
+    rootFirst t && (idsUnique t && (every (replicaKeeps t) (t .replicas)
+    && (every (entryKeeps t) (t .entries) && keysUnique t)))
 
 unfoldable pub sound : Table → Bool
 sound t = fits t && rules t
 
+-- the bytes are a sound table
+unfoldable pub soundBytes : List ℕ → Bool
+soundBytes l = tableInRange l && rules (tableOf l)
+
 -- the sound table that bytes are, if they are one
 unfoldable pub readSound : List ℕ → Option Table
-readSound l = cond (tableInRange l && rules (tableOf l)) (some (tableOf l)) none
+readSound l = cond (soundBytes l) (some (tableOf l)) none

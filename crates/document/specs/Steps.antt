@@ -17,7 +17,7 @@ use Rattle.records.specs.declared.entry.Entry.{Entry}
 use Rattle.slots.specs.declared.replica.Replica.{Replica}
 use Rattle.slots.specs.declared.listed.Listed.{Listed}
 use Rattle.document.specs.Tables.{Table, withReplicas, withEntries, withHighest, find, headOf, entryOf, entriesOf, isKey}
-use Rattle.document.specs.Sound.{isLive, sameKey, noneCrowded}
+use Rattle.document.specs.Sound.{isLive, sameKey, notCrowded}
 
 -- ---- "New clock: new clock is the larger of now and the highest seen plus one; it becomes the highest seen."
 
@@ -199,7 +199,7 @@ makeLive (suc k) now d t =
 
 -- "16: the outcome needs more than 64 replicas, 256 entries, or 32 in a directory"
 unfoldable pub tooMany : Table → Bool
-tooMany t = ltb 64 (length (t .replicas)) || (ltb 256 (length (t .entries)) || not (noneCrowded t))
+tooMany t = ltb 64 (length (t .replicas)) || (ltb 256 (length (t .entries)) || not (every (notCrowded t) (t .replicas)))
 
 -- "17: the outcome needs a clock, version (2^32-1) or count past its end"
 unfoldable pub pastEnd : Table → Bool
