@@ -19,7 +19,7 @@ use Rattle.messages.specs.Acknowledgements.{ackBytes, ackOf, ackInRange, ackFit
 use Rattle.messages.specs.PushHeaders.{pushBytes, pushOf, pushInRange, pushFits}
 use Rattle.slots.specs.declared.replica.Replica.{Replica}
 use Rattle.slots.specs.declared.listed.Listed.{Listed}
-use Rattle.document.specs.Tables.{Table, fresh, find, headOf as head, entryOf as entry, findEntry, entriesOf, rows, slotsFrom, everySlot}
+use Rattle.document.specs.Tables.{Table, fresh, first, headOf as head, entryOf as entry, entriesOf, rows, slotsFrom, everySlot}
 use Rattle.document.specs.Sound.{distinct}
 use Rattle.document.specs.Steps.{joinInto, putHead, setBy, joinAll, oddAll, issue, sameEntries, settleAll, settle, relive, makeLive, tooMany, pastEnd}
 use Rattle.document.specs.Messages.{Push, messageBytes, messageOf, messageInRange, chained, hangsTogether, readPush, readAck, chainUp, pushFrom}
@@ -108,11 +108,11 @@ record FirstRun (t : Table) : Type 0 where
   loser : flagOf (entry t alice foo (nameFrom (102 ∷ 111 ∷ 111 ∷ 49 ∷ []))) ≡ 3074 ∷ 0 ∷ []
 
 first-run-one : FirstRun (moved .one)
-unfolding moved made now! wrote tell turned tellAll settled chunk le bytesOf sameBytes every sameName isText isName nameFrom has single join without members isMade isId isStamp isVersion headBytes headOf headInRange headFits isRoot isOrdinary entryBytes entryOf entryInRange entryFits ackBytes ackOf ackInRange ackFits pushBytes pushOf pushInRange pushFits fresh find findEntry entriesOf rows slotsFrom everySlot distinct joinInto putHead setBy joinAll oddAll issue sameEntries settleAll settle relive makeLive tooMany pastEnd messageBytes messageOf messageInRange chained hangsTogether readPush readAck chainUp pushFrom highest stepA stepB stepC setAbove stepF taken received odd judged nameTaken anyShown liveChild created createIn killed renamed renameIn removeIn pushIn takeIn receiveIn clear clearIn pendingSum
+unfolding moved made now! wrote tell turned tellAll settled chunk le bytesOf sameBytes every sameName isText isName nameFrom has single join without members isMade isId isStamp isVersion headBytes headOf headInRange headFits isRoot isOrdinary entryBytes entryOf entryInRange entryFits ackBytes ackOf ackInRange ackFits pushBytes pushOf pushInRange pushFits fresh first entriesOf rows slotsFrom everySlot distinct joinInto putHead setBy joinAll oddAll issue sameEntries settleAll settle relive makeLive tooMany pastEnd messageBytes messageOf messageInRange chained hangsTogether readPush readAck chainUp pushFrom highest stepA stepB stepC setAbove stepF taken received odd judged nameTaken anyShown liveChild created createIn killed renamed renameIn removeIn pushIn takeIn receiveIn clear clearIn pendingSum
 first-run-one = record { quiet = refl; state = refl; shown = refl; old = refl; loser = refl }
 
 first-run-two : FirstRun (moved .two)
-unfolding moved made now! wrote tell turned tellAll settled chunk le bytesOf sameBytes every sameName isText isName nameFrom has single join without members isMade isId isStamp isVersion headBytes headOf headInRange headFits isRoot isOrdinary entryBytes entryOf entryInRange entryFits ackBytes ackOf ackInRange ackFits pushBytes pushOf pushInRange pushFits fresh find findEntry entriesOf rows slotsFrom everySlot distinct joinInto putHead setBy joinAll oddAll issue sameEntries settleAll settle relive makeLive tooMany pastEnd messageBytes messageOf messageInRange chained hangsTogether readPush readAck chainUp pushFrom highest stepA stepB stepC setAbove stepF taken received odd judged nameTaken anyShown liveChild created createIn killed renamed renameIn removeIn pushIn takeIn receiveIn clear clearIn pendingSum
+unfolding moved made now! wrote tell turned tellAll settled chunk le bytesOf sameBytes every sameName isText isName nameFrom has single join without members isMade isId isStamp isVersion headBytes headOf headInRange headFits isRoot isOrdinary entryBytes entryOf entryInRange entryFits ackBytes ackOf ackInRange ackFits pushBytes pushOf pushInRange pushFits fresh first entriesOf rows slotsFrom everySlot distinct joinInto putHead setBy joinAll oddAll issue sameEntries settleAll settle relive makeLive tooMany pastEnd messageBytes messageOf messageInRange chained hangsTogether readPush readAck chainUp pushFrom highest stepA stepB stepC setAbove stepF taken received odd judged nameTaken anyShown liveChild created createIn killed renamed renameIn removeIn pushIn takeIn receiveIn clear clearIn pendingSum
 first-run-two = record { quiet = refl; state = refl; shown = refl; old = refl; loser = refl }
 
 -- ---- "Run: /d has stamp 257 on both, N 2. At 5 node 1 makes /d/f (1281) for itself, node 2 removes /d (1282). Node 1
@@ -153,5 +153,5 @@ record SecondRun (parted told mended : Two) : Type 0 where
   two : stampOf? (head (mended .two) d) ≡ 1537 ∷ 1 ∷ []
 
 second-run : SecondRun parted told mended
-unfolding mended told parted both now! wrote tell turned tellAll settled chunk le bytesOf sameBytes every sameName isText isName nameFrom has single join without members isMade isId isStamp isVersion headBytes headOf headInRange headFits isRoot isOrdinary entryBytes entryOf entryInRange entryFits ackBytes ackOf ackInRange ackFits pushBytes pushOf pushInRange pushFits fresh find findEntry entriesOf rows slotsFrom everySlot distinct joinInto putHead setBy joinAll oddAll issue sameEntries settleAll settle relive makeLive tooMany pastEnd messageBytes messageOf messageInRange chained hangsTogether readPush readAck chainUp pushFrom highest stepA stepB stepC setAbove stepF taken received odd judged nameTaken anyShown liveChild created createIn killed renamed renameIn removeIn pushIn takeIn receiveIn clear clearIn pendingSum
+unfolding mended told parted both now! wrote tell turned tellAll settled chunk le bytesOf sameBytes every sameName isText isName nameFrom has single join without members isMade isId isStamp isVersion headBytes headOf headInRange headFits isRoot isOrdinary entryBytes entryOf entryInRange entryFits ackBytes ackOf ackInRange ackFits pushBytes pushOf pushInRange pushFits fresh first entriesOf rows slotsFrom everySlot distinct joinInto putHead setBy joinAll oddAll issue sameEntries settleAll settle relive makeLive tooMany pastEnd messageBytes messageOf messageInRange chained hangsTogether readPush readAck chainUp pushFrom highest stepA stepB stepC setAbove stepF taken received odd judged nameTaken anyShown liveChild created createIn killed renamed renameIn removeIn pushIn takeIn receiveIn clear clearIn pendingSum
 second-run = record { made = refl; removed = refl; lives = refl; quiet = refl; one = refl; two = refl }

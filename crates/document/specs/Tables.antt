@@ -63,9 +63,16 @@ fresh node n =
 
 -- ---- what stands in a table: by id, and by directory, child and name
 
-unfoldable pub find : ℕ → List Replica → Option Replica
-find id [] = none
-find id (r ∷ rs) = cond (eqb (r .head .id) id) (some r) (find id rs)
+-- the first element that passes
+unfoldable pub first : {A : Type 0} → (A → Bool) → List A → Option A
+first f [] = none
+first f (x ∷ xs) = cond (f x) (some x) (first f xs)
+
+abbrev pub hasId : ℕ → Replica → Bool
+hasId id r = eqb (r .head .id) id
+
+abbrev pub find : ℕ → List Replica → Option Replica
+find id rs = first (hasId id) rs
 
 abbrev pub headOf? : Option Replica → Option Head
 headOf? none = none
@@ -79,14 +86,16 @@ abbrev pub isKey : ℕ → ℕ → Name → Listed → Bool
 isKey directory child name x =
     eqb (x .directory) directory && (eqb (x .entry .child) child && sameName (x .entry .name) name)
 
-unfoldable pub findEntry : ℕ → ℕ → Name → List Listed → Option Entry
-findEntry directory child name [] = none
-findEntry directory child name (x ∷ xs) =
-    cond (isKey directory child name x) (some (x .entry)) (findEntry directory child name xs)
+abbrev pub findEntry : ℕ → ℕ → Name → List Listed → Option Listed
+findEntry directory child name xs = first (isKey directory child name) xs
+
+abbrev pub entryOf? : Option Listed → Option Entry
+entryOf? none = none
+entryOf? (some x) = some (x .entry)
 
 -- the entry of that directory for that child and name, if there is one
 abbrev pub entryOf : Table → ℕ → ℕ → Name → Option Entry
-entryOf t directory child name = findEntry directory child name (t .entries)
+entryOf t directory child name = entryOf? (findEntry directory child name (t .entries))
 
 -- the entries of a directory, in slot order
 unfoldable pub entriesOf : ℕ → List Listed → List Entry

@@ -1,0 +1,2 @@
+pub mod find;
+mod range;
