@@ -1,7 +1,10 @@
 pub mod Calls
+pub mod Layouts
 pub mod Messages
 pub mod Outcomes
+pub mod Reading
 pub mod Receive
+pub mod Rows
 pub mod Runs
 pub mod Sound
 pub mod Steps
