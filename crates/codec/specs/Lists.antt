@@ -3,7 +3,7 @@
 use mathlib.Core.Path.{_≡_, refl, ap, sym, _∙_}
 use Prim.Native.Nat.{ℕ, suc, _+_, _≤_, _<_}
 use native.Mathlib.Numerals.{add-one}
-use mathlib.Core.Bool.{Bool, true, false, _&&_, not, true≢false}
+use mathlib.Core.Bool.{Bool, true, false, _&&_, _||_, not, true≢false}
 use mathlib.Core.List.{List, [], _∷_}
 use lib.ListN.{length, getD, drop, drop-of-length-le}
 use lib.Seq.{drop-cons}
@@ -32,6 +32,13 @@ and-stop a b h = ap (λ (x : Bool). x && b) (sym h)
 
 pub and-go : (a b : Bool) {r : Bool} → a ≡ true → r ≡ b → r ≡ (a && b)
 and-go a b h e = e ∙ ap (λ (x : Bool). x && b) (sym h)
+
+-- a disjunction: the first test that holds answers, and one that fails leaves the rest
+pub or-stop : (a b : Bool) → a ≡ true → true ≡ (a || b)
+or-stop a b h = ap (λ (x : Bool). x || b) (sym h)
+
+pub or-go : (a b : Bool) {r : Bool} → a ≡ false → r ≡ b → r ≡ (a || b)
+or-go a b h e = e ∙ ap (λ (x : Bool). x || b) (sym h)
 
 pub and-true : (a b : Bool) → (a && b) ≡ true → (a ≡ true) × (b ≡ true)
 and-true true b h = (refl, h)

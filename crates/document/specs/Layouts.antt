@@ -165,19 +165,19 @@ listed-judged n x f =
 -- ---- read: what bytes in range hold is in range, and its name has fifteen bytes
 
 -- a head and an entry
-head-range-fits : (n : ℕ) (c : List ℕ) → headInRange n c ≡ true → headFits n (headOf c) ≡ true
+pub head-range-fits : (n : ℕ) (c : List ℕ) → headInRange n c ≡ true → headFits n (headOf c) ≡ true
 unfolding headInRange
 head-range-fits n c e = and-true (zeroAt c 18 2) _ (and-true (markedAt c 0 headMark) _ e .1) .1
 
-entry-range-fits : (n : ℕ) (c : List ℕ) → entryInRange n c ≡ true → entryFits n (entryOf c) ≡ true
+pub entry-range-fits : (n : ℕ) (c : List ℕ) → entryInRange n c ≡ true → entryFits n (entryOf c) ≡ true
 unfolding entryInRange
 entry-range-fits n c e = and-true (zeroAt c 3 1) _ (and-true (markedAt c 0 entryMark) _ e .1) .1
 
-head-full : (c : List ℕ) → length c ≡ 40 → isFull (headOf c .name) ≡ true
+pub head-full : (c : List ℕ) → length c ≡ 40 → isFull (headOf c .name) ≡ true
 unfolding headOf
 head-full c h = eq-eqb _ 15 (length-chunk c 25 15 (omega arith))
 
-entry-full : (c : List ℕ) → length c ≡ 32 → isFull (entryOf c .name) ≡ true
+pub entry-full : (c : List ℕ) → length c ≡ 32 → isFull (entryOf c .name) ≡ true
 unfolding entryOf
 entry-full c h = eq-eqb _ 15 (length-chunk c 17 15 (omega arith))
 

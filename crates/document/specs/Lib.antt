@@ -1,8 +1,10 @@
 pub mod Calls
+pub mod Examples
 pub mod Layouts
 pub mod Messages
 pub mod Outcomes
 pub mod Reading
+pub mod ReadingMessages
 pub mod Receive
 pub mod Rows
 pub mod Runs

@@ -156,7 +156,7 @@ abbrev entriesZero : List ℕ → Bool
 entriesZero l = zeroAt l (entrySlot (entriesUsed l)) (40 * (256 - entriesUsed l))
 
 -- both tests hold
-and-both : {a b : Bool} → a ≡ true → b ≡ true → (a && b) ≡ true
+pub and-both : {a b : Bool} → a ≡ true → b ≡ true → (a && b) ≡ true
 and-both {a} {b} p q = sym (and-go a b p (sym q))
 
 -- two tables with the same parts are one

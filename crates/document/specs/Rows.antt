@@ -206,7 +206,7 @@ module _ {A : Type 0} (L : Layout A) where
       go false h = omega arith
 
   -- what slots in range hold is written as it stood
-  rows-slots : (l : List ℕ) (b s n : ℕ) → Bytes l → place b (s + n) ≤ length l →
+  pub rows-slots : (l : List ℕ) (b s n : ℕ) → Bytes l → place b (s + n) ≤ length l →
       everySlot (fineIn l b) s n ≡ true →
       bytesAll (slotsFrom (heldIn l b) s n) ≡ chunk l (place b s) (L .width * n)
   unfolding everySlot slotsFrom rows chunk
