@@ -108,7 +108,7 @@ impl Head {
     }
 
     // Whether this is the root's head.
-    fn is_root(self, n: u8) -> bool
+    pub fn is_root(self, n: u8) -> bool
         requires { ⌜ n ≤ 8 ⌝ }
         ensures { λ r. ⌜ r ≡ isRoot n self ⌝ }
     {

@@ -7,7 +7,7 @@ use Prim.Native.Nat.{ℕ, _*_, _-_, _≤_}
 use native.Mathlib.Omega.{arith}
 use lib.Dec.{eqb, leb}
 use lib.ListN.{length}
-use borrow.Author.Tests.{leb-true}
+use borrow.Author.Tests.{leb-true, eqb-true}
 use Rattle.codec.specs.Bytes.{chunk, u8At, markedAt, zeroAt}
 use Rattle.codec.specs.Laws.{getD-chunk}
 use Rattle.codec.specs.Lists.{and-true}
@@ -47,3 +47,15 @@ pub range-tests : (l : List ℕ) (n m k : ℕ) → n ≡ tableOf l .nodes → m 
     && (everySlot (entrySlotFits n l) 0 k && zeroAt l (entrySlot k) (40 * (256 - k)))))))
 unfolding tableInRange
 range-tests l n m k p q r = rw (p, q, r)
+
+-- a table in its range is as long as a table, and has at most 8 nodes
+pub range-length : (l : List ℕ) → tableInRange l ≡ true → length l ≡ 13344
+unfolding tableInRange
+range-length l r = eqb-true (length l) 13344 (and-true (eqb (length l) 13344) _ r .0)
+
+pub range-nodes : (l : List ℕ) → tableInRange l ≡ true → u8At l 3 ≤ 8
+unfolding tableInRange tableOf
+range-nodes l r =
+    let a = and-true (eqb (length l) 13344) _ r in
+    let b = and-true (tableHeaderInRange (chunk l 0 32)) _ (a .1) in
+    omega (arith, nodes-at l, nodes-most (chunk l 0 32) (b .0))

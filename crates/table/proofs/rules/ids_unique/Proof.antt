@@ -1,0 +1,58 @@
+-- `table::rules::ids_unique` meets its contract. The loop's invariant: all are exactly if those from i on are. Assumes nothing.
+use mathlib.Core.Path.{_≡_, refl, sym, _∙_}
+use Prim.Native.Nat.{ℕ, _+_, _*_, _-_, _≤_, _<_}
+use native.Mathlib.Omega.{arith}
+use native.Mathlib.Nat.{sub-zero}
+use borrow.Author.Needs.{needs}
+use Rattle.codec.specs.Lists.{and-stop, and-go, passed, failed}
+use Rattle.document.specs.Tables.{everySlot}
+use Rattle.table.specs.Rules.{idNew}
+use Rattle.table.specs.Slots.{slots-step, slots-none}
+use Rattle.table.proofs.rules.ids_unique.Statement.{statement}
+use Rattle.table.proofs.rules.ids_unique.Tie as tie
+
+abbrev Inv-loop : tie.InvT-loop
+Inv-loop t m i₀ i = (i ≤ m) × (everySlot (idNew t m) 0 m ≡ everySlot (idNew t m) i (m - i))
+
+abbrev μ-loop : tie.MeasureT-loop
+μ-loop t m i₀ i = m - i
+
+loop-holds : tie.Need-loop-holds Inv-loop μ-loop
+loop-holds c = (search needs, simp sub-zero)
+
+id-is-new-requires : tie.Need-id-is-new-requires Inv-loop μ-loop
+id-is-new-requires c κs = search needs
+
+returns : tie.Need-returns Inv-loop μ-loop
+returns c =
+    let l = c .before .before .before .loop in
+    and-stop _ _ (failed (c .before .id-is-new .ensures) (c .if1 .taken))
+    ∙ sym (l .inv .1 ∙ slots-step _ _ _ (c .before .before .loop-test .taken))
+
+add-i : tie.Need-add-i Inv-loop μ-loop
+add-i c = search needs
+
+loop-less : tie.Need-loop-less Inv-loop μ-loop
+loop-less c = search needs
+
+loop-again : tie.Need-loop-again Inv-loop μ-loop
+loop-again c =
+    let l = c .before .before .before .loop in
+    (omega arith, l .inv .1 ∙ slots-step _ _ _ (c .before .before .loop-test .taken) ∙ sym (and-go _ _ (passed (c .before .id-is-new .ensures) (c .if1 .left)) refl))
+
+returns-2 : tie.Need-returns-2 Inv-loop μ-loop
+returns-2 c = sym (c .before .loop .inv .1 ∙ slots-none _ _ _ (c .loop-test .left))
+
+pub ids-unique-spec : {M : Type 1} → statement M
+ids-unique-spec =
+    tie.close
+    (tie.spec
+    Inv-loop
+    μ-loop
+    loop-holds
+    id-is-new-requires
+    returns
+    add-i
+    loop-less
+    loop-again
+    returns-2)
