@@ -1,0 +1,34 @@
+-- What a call answers, from its outcome, and the first refusal of all: what every contract of `service` cites.
+-- Assumes nothing.
+use mathlib.Core.Path.{_≡_, refl, ap, sym, _∙_}
+use mathlib.Core.Bool.{Bool, true, false, cond}
+use mathlib.Core.Option.{Option, some, none}
+use mathlib.Core.List.{List}
+use Prim.Native.Nat.{ℕ, _≤_}
+use native.Mathlib.Omega.{arith}
+use lib.ListN.{length}
+use Rattle.codec.specs.Lists.{and-true}
+use Rattle.document.specs.Tables.{Table, tableOf, tableInRange}
+use Rattle.document.specs.Sound.{soundBytes, readSound, rules}
+use Rattle.document.specs.Outcomes.{Outcome, refused, done, numberOf, valueOf}
+use Rattle.document.specs.Calls.{onSound, ifSound}
+use Rattle.table.specs.Ranges.{range-length}
+use Rattle.service.specs.declared.Answer.{Answer}
+
+abbrev pub answerOf : Outcome → Answer
+answerOf o = record { number = numberOf o; value = valueOf o }
+
+-- ---- "1: table not sound"
+
+pub not-sound : (l : List ℕ) (f : Table → Outcome) → soundBytes l ≡ false → onSound l f ≡ refused 1
+unfolding readSound
+not-sound l f e = ap (λ (b : Bool). ifSound (cond b (some (tableOf l)) none) f) e
+
+pub is-sound : (l : List ℕ) (f : Table → Outcome) → soundBytes l ≡ true → onSound l f ≡ f (tableOf l)
+unfolding readSound
+is-sound l f e = ap (λ (b : Bool). ifSound (cond b (some (tableOf l)) none) f) e
+
+-- a sound table is as long as a table
+pub sound-length : (l : List ℕ) → soundBytes l ≡ true → 13344 ≤ length l
+unfolding soundBytes
+sound-length l e = omega (arith, range-length l (and-true (tableInRange l) (rules (tableOf l)) e .0))
