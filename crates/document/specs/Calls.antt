@@ -19,7 +19,7 @@ use Rattle.slots.specs.declared.replica.Replica.{Replica}
 use Rattle.slots.specs.declared.listed.Listed.{Listed}
 use Rattle.document.specs.Tables.{Table, tableSize, withReplicas, withNext, fresh, find, headOf?, headOf, rows}
 use Rattle.document.specs.Sound.{isLive, isDirectory, isRootId, heldAnd, isHeld, readSound}
-use Rattle.document.specs.Steps.{stampAt, put, issue, settle, withState, withPlace, withHolders, isDead, directoryOf, tooMany, pastEnd}
+use Rattle.document.specs.Steps.{put, issue, settle, withState, withPlace, withHolders, isDead, directoryOf, tooMany, pastEnd}
 use Rattle.document.specs.Messages.{Push, messageBytes, pushFrom, readPush, readAck}
 use Rattle.document.specs.Receive.{received, odd, ackFor}
 use Rattle.document.specs.Outcomes.{Outcome, refused, done, Refusal, judged}
@@ -89,13 +89,13 @@ start l node n =
     judged (when 1 (not (eqb (length l) tableSize)) ∷ when 2 (not (isSize n && isNode n node)) ∷ []) (done 0 (fresh node n) [])
 
 -- "Create: next id, new stamp, holders are the given set with the own node."
-abbrev pub newHead : ℕ → ℕ → Name → ℕ → Table → Head → Head
-newHead now kind name set t p =
+abbrev pub newHead : ℕ → Name → ℕ → Table → Head → ℕ → Head
+newHead kind name set t p stamp =
     record {
       kind = kind;
       live = 1;
       id = idOf (t .own) (t .next);
-      stamp = stampAt now t;
+      stamp = stamp;
       holders = join set (single (t .own));
       depth = p .depth + 1;
       directory = p .id;
@@ -103,7 +103,7 @@ newHead now kind name set t p =
     }
 
 unfoldable pub created : ℕ → ℕ → Name → ℕ → Table → Head → Table
-created now kind name set t p = settle t (issue now (newHead now kind name set t p) (withNext t (t .next + 1)))
+created now kind name set t p = settle t (issue now (newHead kind name set t p) (withNext t (t .next + 1)))
 
 unfoldable pub createIn : ℕ → ℕ → ℕ → List ℕ → ℕ → Table → Outcome
 createIn now d kind name set t =
@@ -126,7 +126,7 @@ create l now d kind name set = onSound l (createIn now d kind name set)
 
 -- "Unlink, remove: new stamp, dead."
 unfoldable pub killed : ℕ → Table → Head → Table
-killed now t h = settle t (issue now (withState h 0 (stampAt now t)) t)
+killed now t h = settle t (issue now (withState h 0) t)
 
 unfoldable pub unlinkIn : ℕ → ℕ → Table → Outcome
 unlinkIn now id t =
@@ -148,7 +148,7 @@ unlink l now id = onSound l (unlinkIn now id)
 
 -- "Rename: new stamp, new place."
 unfoldable pub renamed : ℕ → Name → Table → Head → Head → Table
-renamed now name t p h = settle t (issue now (withPlace h (stampAt now t) p name) t)
+renamed now name t p h = settle t (issue now (withPlace h p name) t)
 
 unfoldable pub renameIn : ℕ → ℕ → ℕ → List ℕ → Table → Outcome
 renameIn now id d name t =
@@ -256,7 +256,7 @@ push l id node room = onSound l (pushIn id node room)
 
 -- ---- receive, acknowledged, pending
 
--- "4: message malformed"
+-- "4: message malformed"; "Ids in an acknowledgement follow 6; ids in a push do not."
 abbrev pub ifPush : Option Push → (Push → Outcome) → Outcome
 ifPush none f = refused 4
 ifPush (some p) f = f p

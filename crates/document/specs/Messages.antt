@@ -87,11 +87,11 @@ chained h (g ∷ gs) =
 abbrev pub isChain : Head → List Head → Bool
 isChain h gs = eqb (suc (length gs)) (max 1 (h .depth)) && (isRootId h || chained h gs)
 
-abbrev pub isSameHead : Head → Head → Bool
-isSameHead a b = eqb (a .id) (b .id)
+abbrev pub sameHeadId : Head → Head → Bool
+sameHeadId a b = eqb (a .id) (b .id)
 
-abbrev pub isSameEntry : Entry → Entry → Bool
-isSameEntry a b = eqb (a .child) (b .child) && sameName (a .name) (b .name)
+abbrev pub sameChildName : Entry → Entry → Bool
+sameChildName a b = eqb (a .child) (b .child) && sameName (a .name) (b .name)
 
 abbrev pub isEmpty : List Entry → Bool
 isEmpty [] = true
@@ -101,13 +101,13 @@ unfoldable pub hangsTogether : Push → Bool
 hangsTogether p =
     isChain (p .first) (p .above)
     -- "an id twice"
-    && (distinct isSameHead (p .first ∷ p .above)
+    && (distinct sameHeadId (p .first ∷ p .above)
     -- "holders without maker or sender"
     && (every (λ (h : Head). makerHolds h && has (h .holders) (p .sender)) (p .first ∷ p .above)
     -- "first head without the addressee"
     && (has (p .first .holders) (p .addressee)
     -- "two entries with the same child and name, an entry for the root"
-    && (distinct isSameEntry (p .entries)
+    && (distinct sameChildName (p .entries)
     && (every (λ (e : Entry). not (eqb (e .child) 0)) (p .entries)
     -- "entries under a file or at depth 16"
     && (isEmpty (p .entries) || (isDirectory (p .first) && ltb (p .first .depth) 16)))))))

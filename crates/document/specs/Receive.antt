@@ -14,8 +14,8 @@ use Rattle.messages.specs.declared.acknowledgement.Acknowledgement.{Acknowledge
 use Rattle.slots.specs.declared.replica.Replica.{Replica}
 use Rattle.slots.specs.declared.listed.Listed.{Listed}
 use Rattle.document.specs.Tables.{Table, withHighest, find, headOf}
-use Rattle.document.specs.Sound.{isLive, isDirectory, isRootId, isHeld}
-use Rattle.document.specs.Steps.{put, joinAll, oddAll, setBy, samePlace, withHolders, isDead, makeLive, settle}
+use Rattle.document.specs.Sound.{isLive, isDirectory, isHeld}
+use Rattle.document.specs.Steps.{put, joinAll, oddAll, setBy, samePlace, sameState, withHolders, isDead, makeLive, settle}
 use Rattle.document.specs.Messages.{Push}
 
 -- "(a) the highest clock takes in all clocks of the message"
@@ -43,7 +43,8 @@ unfoldable pub stepB : List Head → Table → Table
 stepB [] t = t
 stepB (h ∷ hs) t = let u = stepB hs t in makeMissing (headOf u (h .id)) h u
 
--- "(c) the pushed replica is made, or its state taken if the stamp is greater, and holders are joined"
+-- "(c) the pushed replica is made, or its state taken if the stamp is greater, and holders are joined". The first head's
+-- holders have the addressee, so that adding the own node adds nothing where the message is for this node.
 abbrev pub merged : Option Head → Head → Table → Head
 merged none h t = withOwn h t
 merged (some old) h t = withHolders (cond (ltb (old .stamp) (h .stamp)) h old) (join (old .holders) (h .holders))
@@ -78,7 +79,7 @@ setIn t p = setAbove t (p .above) ++ setIfTaken (headOf t (p .first .id)) (p .fi
 abbrev pub mend : ℕ → Option Head → Table → Table
 mend now none t = t
 mend now (some h) t =
-    cond (isLive h && (not (isRootId h) && isDead (headOf t (h .directory)))) (makeLive 16 now (h .directory) t) t
+    cond (isLive h && isDead (headOf t (h .directory))) (makeLive 16 now (h .directory) t) t
 
 unfoldable pub stepF : ℕ → List Replica → Table → Table
 stepF now [] t = t
@@ -109,14 +110,14 @@ oddHead h none = false
 oddHead h (some o) =
     not (eqb (o .kind) (h .kind))
     || ((isDirectory o && not (samePlace o h && eqb (o .depth) (h .depth)))
-    || (eqb (o .stamp) (h .stamp) && not (eqb (o .live) (h .live) && samePlace o h)))
+    || (eqb (o .stamp) (h .stamp) && not (sameState o h)))
 
 -- "a head with an id of our own making that we don't hold"
-abbrev pub isForeign : Table → Head → Bool
-isForeign t h = isHeld (headOf t (h .id)) || not (eqb (maker (h .id)) (t .own))
+abbrev pub isStray : Table → Head → Bool
+isStray t h = not (isHeld (headOf t (h .id))) && eqb (maker (h .id)) (t .own)
 
 -- "or flag, entries set in (e) included"
 unfoldable pub odd : Push → Table → Bool
 odd p t =
-    not (every (λ (h : Head). not (oddHead h (headOf t (h .id))) && isForeign t h) (p .first ∷ p .above))
+    not (every (λ (h : Head). not (oddHead h (headOf t (h .id)) || isStray t h)) (p .first ∷ p .above))
     || oddAll (joins p t) (taken p t)

@@ -151,7 +151,9 @@ record SecondRun (parted told mended : Two) : Type 0 where
   -- "At quiet both show it."
   one : stampOf? (head (mended .one) d) ≡ 1537 ∷ 1 ∷ []
   two : stampOf? (head (mended .two) d) ≡ 1537 ∷ 1 ∷ []
+  one-shows : flagOf (entry (mended .one) 0 d (nameFrom (100 ∷ []))) ≡ 1537 ∷ 1 ∷ []
+  two-shows : flagOf (entry (mended .two) 0 d (nameFrom (100 ∷ []))) ≡ 1537 ∷ 1 ∷ []
 
 second-run : SecondRun parted told mended
 unfolding mended told parted both now! wrote tell turned tellAll settled chunk le bytesOf sameBytes every sameName isText isName nameFrom has single join without members isMade isId isStamp isVersion headBytes headOf headInRange headFits isRoot isOrdinary entryBytes entryOf entryInRange entryFits ackBytes ackOf ackInRange ackFits pushBytes pushOf pushInRange pushFits fresh first entriesOf rows slotsFrom everySlot distinct joinInto putHead setBy joinAll oddAll issue sameEntries settleAll settle relive makeLive tooMany pastEnd messageBytes messageOf messageInRange chained hangsTogether readPush readAck chainUp pushFrom highest stepA stepB stepC setAbove stepF taken received odd judged nameTaken anyShown liveChild created createIn killed renamed renameIn removeIn pushIn takeIn receiveIn clear clearIn pendingSum
-second-run = record { made = refl; removed = refl; lives = refl; quiet = refl; one = refl; two = refl }
+second-run = record { made = refl; removed = refl; lives = refl; quiet = refl; one = refl; two = refl; one-shows = refl; two-shows = refl }

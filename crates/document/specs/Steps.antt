@@ -28,6 +28,7 @@ abbrev pub stampAt : ℕ → Table → ℕ
 stampAt now t = stampOf (clockAt now t) (t .own)
 
 -- ---- "Join of an entry: absent, it is added; else the greater stamp wins; equal stamps with equal flags change nothing."
+-- Added, it takes the next slot: "A new item takes the lowest free slot."
 
 abbrev pub newer : Listed → Listed → Listed
 newer e x = cond (ltb (x .entry .stamp) (e .entry .stamp)) e x
@@ -47,7 +48,8 @@ atOdds e (some x) = eqb (x .stamp) (e .entry .stamp) && not (eqb (x .live) (e .e
 abbrev pub oddJoin : Listed → Table → Bool
 oddJoin e t = atOdds e (entryOf t (e .directory) (e .entry .child) (e .entry .name))
 
--- ---- a replica's head is put in its place, or the replica takes the next slot; its version comes with `settle`
+-- ---- a replica's head is put where it stands, or the replica takes the next slot ("A new item takes the lowest free
+-- slot."); a new one stands with version 0 until `settle` raises it to 1
 
 abbrev pub renewed : Head → Replica → Replica
 renewed h r = record { head = h; version = r .version; pending = r .pending }
@@ -79,6 +81,10 @@ strike h old =
 abbrev pub samePlace : Head → Head → Bool
 samePlace a b = eqb (a .directory) (b .directory) && sameName (a .name) (b .name)
 
+-- "A replica's state is its live flag, place and stamp, not its holders.": of two with one stamp
+abbrev pub sameState : Head → Head → Bool
+sameState a b = eqb (a .live) (b .live) && samePlace a b
+
 -- the entries that the state sets, in order; there is no old place for a new replica
 unfoldable pub setBy : Head → Option Head → List Listed
 setBy h none = placeEntry h ∷ []
@@ -93,9 +99,11 @@ unfoldable pub oddAll : List Listed → Table → Bool
 oddAll [] t = false
 oddAll (e ∷ es) t = oddJoin e t || oddAll es (joined e t)
 
--- a state with a new stamp: the clock is drawn, the head put, its entries set
-unfoldable pub issue : ℕ → Head → Table → Table
-issue now h t = joinAll (setBy h (headOf t (h .id))) (put h (withHighest t (clockAt now t)))
+-- a state with a new stamp: the clock is drawn, the head made with the stamp is put, its entries are set
+unfoldable pub issue : ℕ → (ℕ → Head) → Table → Table
+issue now f t =
+    let h = f (stampAt now t) in
+    joinAll (setBy h (headOf t (h .id))) (put h (withHighest t (clockAt now t)))
 
 -- a head with another state, with another place, and with other holders
 abbrev pub withState : Head → ℕ → ℕ → Head
@@ -111,8 +119,8 @@ withState h live stamp =
       name = h .name;
     }
 
-abbrev pub withPlace : Head → ℕ → Head → Name → Head
-withPlace h stamp p name =
+abbrev pub withPlace : Head → Head → Name → ℕ → Head
+withPlace h p name stamp =
     record {
       kind = h .kind;
       live = h .live;
@@ -185,7 +193,7 @@ directoryOf (some h) = h .directory
 
 unfoldable pub relive : ℕ → Option Head → Table → Table
 relive now none t = t
-relive now (some h) t = issue now (withState h 1 (stampAt now t)) t
+relive now (some h) t = issue now (withState h 1) t
 
 -- at most k directories up
 unfoldable pub makeLive : ℕ → ℕ → ℕ → Table → Table
