@@ -4,7 +4,7 @@ use mathlib.Core.Path.{_≡_, refl, ap, sym, _∙_}
 use mathlib.Core.Bool.{Bool, true, false, cond}
 use mathlib.Core.Option.{Option, some, none}
 use mathlib.Core.List.{List}
-use Prim.Native.Nat.{ℕ, _≤_}
+use Prim.Native.Nat.{ℕ, _+_, _*_, _≤_}
 use native.Mathlib.Omega.{arith}
 use lib.ListN.{length}
 use Rattle.codec.specs.Lists.{and-true}
@@ -17,6 +17,13 @@ use Rattle.service.specs.declared.Answer.{Answer}
 
 abbrev pub answerOf : Outcome → Answer
 answerOf o = record { number = numberOf o; value = valueOf o }
+
+-- an exported call answers both in one number
+abbrev pub packedAnswer : Answer → ℕ
+packedAnswer a = a .number * 4294967296 + a .value
+
+abbrev pub packed : Outcome → ℕ
+packed o = packedAnswer (answerOf o)
 
 -- ---- "1: table not sound"
 

@@ -1,0 +1,21 @@
+// The exported twins of the calls, for C and Rust: each answers number * 4294967296 + value.
+use crate::Answer;
+ghost use mathlib.Core.Path.{_≡_};
+ghost use Prim.Native.Nat.{ℕ, _+_, _*_};
+ghost use Rattle.document.specs.Outcomes.{numberOf, valueOf};
+ghost use Rattle.document.specs.Calls.{pending};
+ghost use Rattle.service.specs.Answers.{packed, packedAnswer};
+
+// Number and value in one.
+fn pack(answer: Answer) -> u64
+    ensures { λ r. ⌜ r ≡ packedAnswer answer ⌝ }
+{
+    answer.number as u64 * 4294967296 + answer.value as u64
+}
+
+#[no_mangle]
+pub extern "C" fn rumbezalo_pending(table: &[u8]) -> u64
+    ensures { λ r. ⌜ r ≡ packed (pending (now (table .entry))) ⌝ }
+{
+    pack(crate::pending::pending(table))
+}
