@@ -1,5 +1,5 @@
 // The Adler-32 of RFC 1950: two sums modulo 65521.
-ghost use Prim.Native.Nat.{ℕ, _<_};
+ghost use Prim.Native.Nat.{_<_};
 
 pub fn adler(bytes: &[u8]) -> u32 {
     let mut a: u32 = 1;

@@ -4,7 +4,7 @@ use crate::wire;
 use libc::STDOUT_FILENO;
 use service::Answer;
 ghost use mathlib.Core.Path.{_≡_};
-ghost use Prim.Native.Nat.{ℕ, _+_, _*_, _≤_, _<_};
+ghost use Prim.Native.Nat.{_+_, _*_, _≤_, _<_};
 ghost use lib.ListN.{length};
 
 // A table's length, as it was kept: never more than there is room for.
@@ -91,6 +91,10 @@ fn call_with(table: &mut [u8], header: &[u8; 64], payload: &[u8], out: &mut [u8]
 
 // The call that the code names.
 fn made(table: &mut [u8], header: &[u8; 64], payload: &[u8], out: &mut [u8]) -> Answer {
+    let code = header[0];
+    if code == 7 {
+        return service::list::list(table, wire::number(header, 0), out);
+    }
     service::pending::pending(table)
 }
 

@@ -1,7 +1,6 @@
 // A request's header of 64 bytes: code, table slot, six zeros, five numbers, the length of the output
 // buffer and that of the payload.
-ghost use mathlib.Core.Path.{_≡_};
-ghost use Prim.Native.Nat.{ℕ, _≤_, _<_};
+ghost use Prim.Native.Nat.{_≤_, _<_};
 
 // Whether the header is one that can be answered.
 pub fn is_formed(header: &[u8; 64]) -> bool {
@@ -26,6 +25,9 @@ pub fn is_formed(header: &[u8; 64]) -> bool {
 
 // Whether there is such a request: the calls that have landed, load, poke and show.
 fn is_code(code: u8) -> bool {
+    if code == 7 {
+        return true;
+    }
     if code == 11 {
         return true;
     }

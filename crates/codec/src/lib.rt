@@ -5,7 +5,7 @@
 // place lies within the slice, and its answer is one equation with a definition of specs/. A number
 // is never wider than its field, so nothing is cut off.
 ghost use mathlib.Core.Path.{_≡_};
-ghost use Prim.Native.Nat.{ℕ, _+_, _≤_, _<_};
+ghost use Prim.Native.Nat.{_+_, _≤_, _<_};
 ghost use mathlib.Core.List.{[], _∷_};
 ghost use lib.ListN.{length};
 ghost use Rattle.codec.specs.Bytes.{chunk, splice, u8, u32, u64, u8At, u32At, u64At, allAre, sameBytes, markedAt, zeroAt};

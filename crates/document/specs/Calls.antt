@@ -1,9 +1,9 @@
 -- The eleven calls, each with its refusals in one list, in the order of their numbers. A call is given the table's bytes;
 -- what is sound is judged first. Assumes nothing.
-use mathlib.Core.Bool.{Bool, true, false, _&&_, _||_, not, cond}
+use mathlib.Core.Bool.{Bool, false, _&&_, _||_, not, cond}
 use mathlib.Core.Option.{Option, some, none}
 use mathlib.Core.List.{List, [], _∷_}
-use Prim.Native.Nat.{ℕ, zero, suc, _+_, _*_, _^_}
+use Prim.Native.Nat.{ℕ, _+_, _*_, _^_}
 use lib.Dec.{eqb, leb, ltb}
 use lib.ListN.{length}
 use Rattle.names.specs.declared.Name.{Name}
@@ -19,7 +19,7 @@ use Rattle.slots.specs.declared.replica.Replica.{Replica}
 use Rattle.slots.specs.declared.listed.Listed.{Listed}
 use Rattle.document.specs.Tables.{Table, tableSize, withReplicas, withNext, fresh, find, headOf?, headOf, rows}
 use Rattle.document.specs.Sound.{isLive, isDirectory, isRootId, heldAnd, isHeld, readSound}
-use Rattle.document.specs.Steps.{put, issue, settle, withState, withPlace, withHolders, isDead, directoryOf, tooMany, pastEnd}
+use Rattle.document.specs.Steps.{put, issue, settle, withState, withPlace, withHolders, isDead, tooMany, pastEnd}
 use Rattle.document.specs.Messages.{Push, messageBytes, pushFrom, readPush, readAck}
 use Rattle.document.specs.Receive.{received, odd, ackFor}
 use Rattle.document.specs.Outcomes.{Outcome, refused, done, Refusal, judged}

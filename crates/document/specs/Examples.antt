@@ -24,7 +24,7 @@ use Rattle.slots.specs.declared.listed.Listed.{Listed}
 use Rattle.document.specs.Tables.{Table, withHighest, fresh, first, find, entriesOf, rows, slotsFrom, everySlot}
 use Rattle.document.specs.Sound.{distinct}
 use Rattle.document.specs.Steps.{joinInto, putHead, setBy, joinAll, oddAll, issue, sameEntries, settleAll, settle, relive, makeLive, tooMany, pastEnd}
-use Rattle.document.specs.Messages.{Push, messageBytes, messageOf, messageInRange, chained, hangsTogether, readPush, readAck, chainUp, pushFrom}
+use Rattle.document.specs.Messages.{messageBytes, messageOf, messageInRange, chained, hangsTogether, readPush, readAck, chainUp, pushFrom}
 use Rattle.document.specs.Receive.{highest, stepA, stepB, stepC, setAbove, stepF, taken, received, odd}
 use Rattle.document.specs.Outcomes.{Outcome, refused, done, numberOf, valueOf, judged}
 use Rattle.document.specs.Calls.{nameTaken, created, createIn, spreadTo, spreadIn, pushIn, takeIn, receiveIn, clear, clearIn, ifAck, start}

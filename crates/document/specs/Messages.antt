@@ -18,7 +18,7 @@ use Rattle.messages.specs.declared.acknowledgement.Acknowledgement.{Acknowledge
 use Rattle.messages.specs.declared.push_header.PushHeader.{PushHeader}
 use Rattle.messages.specs.Acknowledgements.{ackOf, ackInRange}
 use Rattle.messages.specs.PushHeaders.{pushBytes, pushOf, pushInRange}
-use Rattle.document.specs.Tables.{Table, find, headOf, entriesOf, rows, slotsFrom, everySlot}
+use Rattle.document.specs.Tables.{Table, headOf, entriesOf, rows, slotsFrom, everySlot}
 use Rattle.document.specs.Sound.{isLive, isDirectory, isRootId, makerHolds, distinct}
 
 -- "Push: .. then heads, then entries. First head: the replica pushed; then its place directory and so on up, without the

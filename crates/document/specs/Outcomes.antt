@@ -1,11 +1,9 @@
 -- "What comes back": a call is refused, or done with a value, a table and what it wrote. Assumes nothing.
-use mathlib.Core.Bool.{Bool, true, false, _||_, cond}
-use mathlib.Core.Option.{Option, some, none}
+use mathlib.Core.Bool.{Bool, cond}
 use mathlib.Core.List.{List, [], _∷_}
 use Prim.Native.Nat.{ℕ}
 use Rattle.codec.specs.Bytes.{splice}
 use Rattle.document.specs.Tables.{Table, tableBytes}
-use Rattle.document.specs.Sound.{readSound}
 
 pub data Outcome : Type 0 where
   refused : ℕ → Outcome

@@ -1,11 +1,10 @@
 -- "Receive", step by step, and what of a message is at odds with the table (line 13 of the refusals). Assumes nothing.
-use mathlib.Core.Bool.{Bool, true, false, _&&_, _||_, not, cond}
+use mathlib.Core.Bool.{Bool, false, _&&_, _||_, not, cond}
 use mathlib.Core.Option.{Option, some, none}
 use mathlib.Core.List.{List, [], _∷_, _++_, map}
-use Prim.Native.Nat.{ℕ, zero, suc, _+_, max}
+use Prim.Native.Nat.{ℕ, max}
 use lib.Dec.{eqb, ltb}
 use Rattle.codec.specs.Lists.{every}
-use Rattle.names.specs.Names.{sameName}
 use Rattle.numbers.specs.Nodes.{join, single}
 use Rattle.numbers.specs.Ids.{maker, clockOf}
 use Rattle.records.specs.declared.head.Head.{Head}
@@ -13,7 +12,7 @@ use Rattle.records.specs.declared.entry.Entry.{Entry}
 use Rattle.messages.specs.declared.acknowledgement.Acknowledgement.{Acknowledgement}
 use Rattle.slots.specs.declared.replica.Replica.{Replica}
 use Rattle.slots.specs.declared.listed.Listed.{Listed}
-use Rattle.document.specs.Tables.{Table, withHighest, find, headOf}
+use Rattle.document.specs.Tables.{Table, withHighest, headOf}
 use Rattle.document.specs.Sound.{isLive, isDirectory, isHeld}
 use Rattle.document.specs.Steps.{put, joinAll, oddAll, setBy, samePlace, sameState, withHolders, isDead, makeLive, settle}
 use Rattle.document.specs.Messages.{Push}

@@ -1,13 +1,11 @@
 -- Both runs of document 01, computed: the definitions give what the document says, by `refl`. Messages go through their
 -- bytes; tables are taken as tables. Assumes nothing.
 use mathlib.Core.Path.{_≡_, refl}
-use mathlib.Core.Bool.{Bool, true, false, _&&_, cond}
 use mathlib.Core.Option.{Option, some, none}
 use mathlib.Core.List.{List, [], _∷_}
-use Prim.Native.Nat.{ℕ, zero, suc, _+_, _*_}
+use Prim.Native.Nat.{ℕ, zero, suc, _+_}
 use Rattle.codec.specs.Bytes.{chunk, le, bytesOf, sameBytes}
 use Rattle.codec.specs.Lists.{every}
-use Rattle.names.specs.declared.Name.{Name}
 use Rattle.names.specs.Names.{sameName, isText, isName, nameFrom, nameBytes}
 use Rattle.numbers.specs.Nodes.{has, single, join, without, members}
 use Rattle.numbers.specs.Ids.{isMade, isId, isStamp, isVersion}
@@ -18,11 +16,10 @@ use Rattle.records.specs.Entries.{entryBytes, entryOf, entryInRange, entryFits}
 use Rattle.messages.specs.Acknowledgements.{ackBytes, ackOf, ackInRange, ackFits}
 use Rattle.messages.specs.PushHeaders.{pushBytes, pushOf, pushInRange, pushFits}
 use Rattle.slots.specs.declared.replica.Replica.{Replica}
-use Rattle.slots.specs.declared.listed.Listed.{Listed}
 use Rattle.document.specs.Tables.{Table, fresh, first, headOf as head, entryOf as entry, entriesOf, rows, slotsFrom, everySlot}
 use Rattle.document.specs.Sound.{distinct}
 use Rattle.document.specs.Steps.{joinInto, putHead, setBy, joinAll, oddAll, issue, sameEntries, settleAll, settle, relive, makeLive, tooMany, pastEnd}
-use Rattle.document.specs.Messages.{Push, messageBytes, messageOf, messageInRange, chained, hangsTogether, readPush, readAck, chainUp, pushFrom}
+use Rattle.document.specs.Messages.{messageBytes, messageOf, messageInRange, chained, hangsTogether, readPush, readAck, chainUp, pushFrom}
 use Rattle.document.specs.Receive.{highest, stepA, stepB, stepC, setAbove, stepF, taken, received, odd}
 use Rattle.document.specs.Outcomes.{Outcome, refused, done, judged}
 use Rattle.document.specs.Calls.{nameTaken, anyShown, liveChild, created, createIn, killed, renamed, renameIn, removeIn, pushIn, takeIn, receiveIn, clear, clearIn, ifAck, pendingSum}

@@ -2,11 +2,10 @@
 use mathlib.Core.Bool.{Bool, true, false, _&&_, _||_, not, cond}
 use mathlib.Core.Option.{Option, some, none}
 use mathlib.Core.List.{List, [], _∷_}
-use Prim.Native.Nat.{ℕ, zero, suc, _+_}
+use Prim.Native.Nat.{ℕ, _+_}
 use lib.Dec.{eqb, leb, ltb}
 use lib.ListN.{length}
 use Rattle.codec.specs.Lists.{every}
-use Rattle.names.specs.Names.{sameName}
 use Rattle.numbers.specs.Nodes.{has, join, without}
 use Rattle.numbers.specs.Ids.{maker, count, clockOf}
 use Rattle.records.specs.declared.head.Head.{Head}
@@ -14,7 +13,7 @@ use Rattle.records.specs.declared.entry.Entry.{Entry}
 use Rattle.records.specs.Heads.{isRoot}
 use Rattle.slots.specs.declared.replica.Replica.{Replica}
 use Rattle.slots.specs.declared.listed.Listed.{Listed}
-use Rattle.document.specs.Tables.{Table, find, headOf, findEntry, entryOf, entriesOf, isKey, fits, tableInRange, tableOf, readTable}
+use Rattle.document.specs.Tables.{Table, headOf, entryOf, entriesOf, isKey, fits, tableInRange, tableOf}
 
 -- a replica but the root; a live one; a directory
 abbrev pub isRootId : Head → Bool

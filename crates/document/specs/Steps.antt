@@ -2,21 +2,21 @@
 -- pending. Versions and pending sets stay as they are through all steps, and `settle` alone touches them. Assumes nothing.
 use mathlib.Core.Bool.{Bool, true, false, _&&_, _||_, not, cond}
 use mathlib.Core.Option.{Option, some, none}
-use mathlib.Core.List.{List, [], _∷_, _++_}
-use Prim.Native.Nat.{ℕ, zero, suc, _+_, _*_, _-_, _^_}
+use mathlib.Core.List.{List, [], _∷_}
+use Prim.Native.Nat.{ℕ, zero, suc, _+_, _^_}
 use lib.Dec.{eqb, leb, ltb}
 use lib.ListN.{length}
 use Rattle.codec.specs.Lists.{every}
 use Rattle.names.specs.declared.Name.{Name}
 use Rattle.names.specs.Names.{sameName}
-use Rattle.numbers.specs.Nodes.{join, without, single}
+use Rattle.numbers.specs.Nodes.{without}
 use Rattle.numbers.specs.Ids.{stampOf}
 use Rattle.numbers.specs.Clocks.{newClock}
 use Rattle.records.specs.declared.head.Head.{Head}
 use Rattle.records.specs.declared.entry.Entry.{Entry}
 use Rattle.slots.specs.declared.replica.Replica.{Replica}
 use Rattle.slots.specs.declared.listed.Listed.{Listed}
-use Rattle.document.specs.Tables.{Table, withReplicas, withEntries, withHighest, find, headOf, entryOf, entriesOf, isKey}
+use Rattle.document.specs.Tables.{Table, withReplicas, withEntries, withHighest, headOf, entryOf, entriesOf}
 use Rattle.document.specs.Sound.{isLive, sameKey, notCrowded}
 
 -- ---- "New clock: new clock is the larger of now and the highest seen plus one; it becomes the highest seen."

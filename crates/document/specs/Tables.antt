@@ -1,16 +1,16 @@
 -- "Numbers and records", the table: what a table is, where its parts stand, and the table that bytes are. No limits are
 -- in it: how many slots there are is judged with the bytes, and on the outcome of a call. Assumes nothing.
-use mathlib.Core.Bool.{Bool, true, false, _&&_, _||_, not, cond}
+use mathlib.Core.Bool.{Bool, true, _&&_, cond}
 use mathlib.Core.Option.{Option, some, none}
 use mathlib.Core.List.{List, [], _∷_, _++_}
 use Prim.Native.Nat.{ℕ, zero, suc, _+_, _*_, _-_}
 use lib.Dec.{eqb, leb}
 use lib.ListN.{length}
-use Rattle.codec.specs.Bytes.{chunk, zeros, allAre, markedAt, zeroAt}
+use Rattle.codec.specs.Bytes.{chunk, zeros, markedAt, zeroAt}
 use Rattle.codec.specs.Lists.{every}
 use Rattle.names.specs.declared.Name.{Name}
 use Rattle.names.specs.Names.{sameName}
-use Rattle.numbers.specs.Nodes.{isSet, all}
+use Rattle.numbers.specs.Nodes.{isSet}
 use Rattle.numbers.specs.Ids.{isId, isVersion}
 use Rattle.records.specs.declared.head.Head.{Head}
 use Rattle.records.specs.declared.entry.Entry.{Entry}

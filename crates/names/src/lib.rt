@@ -1,9 +1,9 @@
 // Names: one length byte, then fifteen bytes, unused ones zero. A name is a struct by value, inside
 // heads and entries; what a caller gives is a slice of any length, and becomes a name that is judged.
 ghost use mathlib.Core.Path.{_≡_};
-ghost use Prim.Native.Nat.{ℕ, _+_, _≤_};
+ghost use Prim.Native.Nat.{_+_, _≤_};
 ghost use lib.ListN.{length};
-ghost use Rattle.codec.specs.Bytes.{sameBytes, splice};
+ghost use Rattle.codec.specs.Bytes.{splice};
 ghost use Rattle.names.specs.Names.{nameAt, nameBytes, noName, nameFrom, sameName, clean, isText, isName};
 
 pub struct Name {

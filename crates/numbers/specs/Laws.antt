@@ -1,17 +1,16 @@
 -- Laws of `Nodes`: which nodes are in a set that was joined or had one taken out, and how the code's shifts meet the
 -- definitions. Assumes nothing.
-use mathlib.Core.Path.{_≡_, refl, ap, sym, subst, _∙_}
+use mathlib.Core.Path.{_≡_, refl, ap, sym, _∙_}
 use mathlib.Core.Bool.{Bool, true, false, _||_, cond, true≢false}
-use mathlib.Core.Logic.{_⊎_, inl, inr}
 use Prim.Native.Nat.{ℕ, zero, suc, _+_, _*_, _-_, _/_, _%_, _^_, _≤_, _<_, max}
 use native.Mathlib.Omega.{arith}
 use native.Mathlib.Nat.{div-self, div-eq-of-lt, mul-div-cancel, pow-suc, one-mul, zero-div, div-lt-iff-lt-mul}
 use native.Mathlib.Decide.{decLt}
-use lib.Dec.{eqb, ltb, lit<}
-use lib.Pow.{pow-pos, pow-lt, pow-mono, pow-add, shr-shr, shl-exact, high, ones-split, ones-lt}
-use lib.Bits.{bitOr, or-shr, or-step, or-lt, bitXor, xor-shr, xor-step, xor-lt, differ}
-use borrow.Author.Tests.{eqb-true, eqb-false, eq-eqb, ne-eqb, lt-ltb, le-ltb, ltb-true}
-use Rattle.numbers.specs.Nodes.{has, single, all, join, without, members, isSet}
+use lib.Dec.{eqb, lit<}
+use lib.Pow.{pow-pos, pow-lt, pow-mono, pow-add, shl-exact, high, ones-split, ones-lt}
+use lib.Bits.{or-shr, or-step, or-lt, bitXor, xor-shr, xor-step, differ}
+use borrow.Author.Tests.{eqb-true, eq-eqb, ne-eqb, lt-ltb, le-ltb, ltb-true}
+use Rattle.numbers.specs.Nodes.{has, single, all, join, without, isSet}
 
 -- ---- as the code has them
 

@@ -1,7 +1,7 @@
 // The clock of a table by value. A tick hands back the advanced clock and the stamp that it gives;
 // that a clock is past its end is seen afterwards, so a tick has room above 2^40-1.
 ghost use mathlib.Core.Path.{_≡_};
-ghost use Prim.Native.Nat.{ℕ, _≤_, _<_, _^_};
+ghost use Prim.Native.Nat.{_≤_, _<_, _^_};
 ghost use Rattle.numbers.specs.Clocks.{ticked, tickedAt};
 
 pub struct Clock {

@@ -1,7 +1,7 @@
 // Ids, stamps and versions.
 ghost use mathlib.Core.Path.{_≡_};
-ghost use Prim.Native.Nat.{ℕ, _≤_, _<_};
-ghost use Rattle.numbers.specs.Ids.{idOf, maker, count, isMade, isId, stampOf, clockOf, isStamp, isVersion};
+ghost use Prim.Native.Nat.{_≤_, _<_};
+ghost use Rattle.numbers.specs.Ids.{idOf, maker, count, isMade, isId, clockOf, isStamp, isVersion};
 
 // The id of a node's count-th file.
 pub fn id_of(node: u8, count: u32) -> u32

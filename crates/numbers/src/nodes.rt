@@ -1,6 +1,6 @@
 // Nodes, and sets of nodes: one byte, bit i-1 for node i.
 ghost use mathlib.Core.Path.{_≡_};
-ghost use Prim.Native.Nat.{ℕ, _≤_, _<_};
+ghost use Prim.Native.Nat.{_≤_, _<_};
 ghost use Rattle.numbers.specs.Nodes.{isSize, isNode, isSet, has, single, all, join, without, size};
 
 // Whether there can be n nodes.

@@ -2,7 +2,7 @@
 use names::Name;
 use numbers::ids;
 ghost use mathlib.Core.Path.{_≡_};
-ghost use Prim.Native.Nat.{ℕ, _+_, _≤_};
+ghost use Prim.Native.Nat.{_+_, _≤_};
 ghost use lib.ListN.{length};
 ghost use Rattle.codec.specs.Bytes.{chunk, splice};
 ghost use Rattle.records.specs.Entries.{entryAt, entryBytes, entryFits, entryInRange};

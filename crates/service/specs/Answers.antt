@@ -1,8 +1,8 @@
 -- What a call answers, from its outcome, and the first refusal of all: what every contract of `service` cites.
 -- Assumes nothing.
-use mathlib.Core.Path.{_≡_, refl, ap, sym, _∙_}
+use mathlib.Core.Path.{_≡_, ap}
 use mathlib.Core.Bool.{Bool, true, false, cond}
-use mathlib.Core.Option.{Option, some, none}
+use mathlib.Core.Option.{some, none}
 use mathlib.Core.List.{List}
 use Prim.Native.Nat.{ℕ, _+_, _*_, _≤_}
 use native.Mathlib.Omega.{arith}
@@ -10,7 +10,7 @@ use lib.ListN.{length}
 use Rattle.codec.specs.Lists.{and-true}
 use Rattle.document.specs.Tables.{Table, tableOf, tableInRange}
 use Rattle.document.specs.Sound.{soundBytes, readSound, rules}
-use Rattle.document.specs.Outcomes.{Outcome, refused, done, numberOf, valueOf}
+use Rattle.document.specs.Outcomes.{Outcome, refused, numberOf, valueOf}
 use Rattle.document.specs.Calls.{onSound, ifSound}
 use Rattle.table.specs.Ranges.{range-length}
 use Rattle.service.specs.declared.Answer.{Answer}

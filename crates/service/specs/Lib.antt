@@ -1,2 +1,5 @@
 pub mod Answers
+pub mod Held
+pub mod Listing
+pub mod Outputs
 pub mod Pending

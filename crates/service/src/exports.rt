@@ -1,9 +1,10 @@
 // The exported twins of the calls, for C and Rust: each answers number * 4294967296 + value.
 use crate::Answer;
 ghost use mathlib.Core.Path.{_≡_};
-ghost use Prim.Native.Nat.{ℕ, _+_, _*_};
-ghost use Rattle.document.specs.Outcomes.{numberOf, valueOf};
-ghost use Rattle.document.specs.Calls.{pending};
+ghost use Prim.Native.Nat.{_+_, _*_};
+ghost use lib.ListN.{length};
+ghost use Rattle.document.specs.Outcomes.{outputAfter};
+ghost use Rattle.document.specs.Calls.{list, pending};
 ghost use Rattle.service.specs.Answers.{packed, packedAnswer};
 
 // Number and value in one.
@@ -11,6 +12,15 @@ fn pack(answer: Answer) -> u64
     ensures { λ r. ⌜ r ≡ packedAnswer answer ⌝ }
 {
     answer.number as u64 * 4294967296 + answer.value as u64
+}
+
+#[no_mangle]
+pub extern "C" fn rumbezalo_list(table: &[u8], id: u64, out: &mut [u8]) -> u64
+    ensures { λ r.
+        ⌜ (r ≡ packed (list (now (table .entry)) id (length (now (out .entry)))))
+        × (now (out .exit) ≡ outputAfter (list (now (table .entry)) id (length (now (out .entry)))) (now (out .entry))) ⌝ }
+{
+    pack(crate::list::list(table, id, out))
 }
 
 #[no_mangle]

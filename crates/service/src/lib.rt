@@ -2,6 +2,7 @@
 // order of the numbers, and then does what document 01 says: its contract is one equation with the
 // call of that name in `document`, for the answer and for every byte lent. None has a `requires`.
 pub mod exports;
+pub mod list;
 pub mod pending;
 
 // What comes back: 0 is done, any other number a refusal; and the value.

@@ -3,7 +3,7 @@ use crate::Answer;
 use numbers::nodes;
 use table::find;
 ghost use mathlib.Core.Path.{_≡_};
-ghost use Prim.Native.Nat.{ℕ, _+_, _*_, _≤_, _<_};
+ghost use Prim.Native.Nat.{_+_, _*_, _≤_, _<_};
 ghost use lib.ListN.{length};
 ghost use Rattle.document.specs.Tables.{slotsFrom, replicaIn};
 ghost use Rattle.document.specs.Calls.{pending, pendingSum};

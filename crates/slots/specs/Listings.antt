@@ -11,7 +11,7 @@ use Rattle.codec.specs.Bytes.{chunk, splice, le, bytesOf, u32, u32At, zeros, jo
 use Rattle.codec.specs.Laws.{chunk-chunk, first-chunk, le-bytesOf, splices-splice, joined-back, zero-chunk, number-back, zeros-back, bytes-chunk, length-chunk}
 use Rattle.codec.specs.Lists.{and-true}
 use Rattle.numbers.specs.Ids.{isId}
-use Rattle.records.specs.Entries.{entryBytes, entryOf, entryInRange, EntryFit, entry-round, entry-back, length-entryBytes}
+use Rattle.records.specs.Entries.{entryBytes, entryOf, entryInRange, EntryFit, entry-round, entry-back}
 use Rattle.slots.specs.declared.listed.Listed.{Listed}
 
 -- "256 entry slots of 40 (entry, directory id u32, four zeros)"

@@ -12,7 +12,7 @@ use Rattle.codec.specs.Laws.{getD-chunk, chunk-chunk, first-chunk, le-bytesOf, 
 use Rattle.codec.specs.Lists.{and-true}
 use Rattle.numbers.specs.Nodes.{isSet}
 use Rattle.numbers.specs.Ids.{isVersion}
-use Rattle.records.specs.Heads.{headBytes, headOf, headInRange, HeadFit, head-round, head-back, length-headBytes}
+use Rattle.records.specs.Heads.{headBytes, headOf, headInRange, HeadFit, head-round, head-back}
 use Rattle.slots.specs.declared.replica.Replica.{Replica}
 
 -- "64 replica slots of 48 (head, version u32, pending set, three zeros)"

@@ -6,7 +6,7 @@ use mathlib.Core.List.{List, [], _∷_}
 use Prim.Native.Nat.{ℕ, _+_, _^_, _≤_, _<_}
 use native.Mathlib.Omega.{arith}
 use native.Mathlib.Nat.{add-zero}
-use lib.Dec.{leb, ltb}
+use lib.Dec.{ltb}
 use lib.ListN.{length}
 use Rattle.codec.specs.Bytes.{chunk, splice, le, bytesOf, u8, u32, u64, u8At, u32At, u64At, zeros, joined, sameBytes, markedAt, zeroAt, Bytes}
 use Rattle.codec.specs.Laws.{getD-chunk, chunk-chunk, le-bytesOf, splices-splice, same-eq, joined-back, marked-chunk, zero-chunk, u8-back, number-back, zeros-back}

@@ -2,7 +2,7 @@
 use numbers::ids;
 use records::Entry;
 ghost use mathlib.Core.Path.{_≡_};
-ghost use Prim.Native.Nat.{ℕ, _+_, _≤_};
+ghost use Prim.Native.Nat.{_+_, _≤_};
 ghost use lib.ListN.{length};
 ghost use Rattle.codec.specs.Bytes.{chunk, splice};
 ghost use Rattle.slots.specs.Listings.{listedAt, listedBytes, listedInRange};

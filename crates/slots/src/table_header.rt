@@ -1,7 +1,7 @@
 // The thirty-two bytes that a table starts with: whose it is, and what its node gives next.
 use numbers::nodes;
 ghost use mathlib.Core.Path.{_≡_};
-ghost use Prim.Native.Nat.{ℕ, _+_, _≤_};
+ghost use Prim.Native.Nat.{_+_, _≤_};
 ghost use lib.ListN.{length};
 ghost use Rattle.codec.specs.Bytes.{chunk, splice};
 ghost use Rattle.slots.specs.TableHeaders.{tableHeaderAt, tableHeaderBytes, tableHeaderFits, tableHeaderInRange};

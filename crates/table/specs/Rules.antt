@@ -1,16 +1,15 @@
 -- The rules of a sound table over slots: what the contracts of `table::rules` cite, and the laws that carry them to the
 -- lists of `document`. Assumes nothing.
 use mathlib.Core.Path.{_≡_, refl, ap, sym, _∙_}
-use mathlib.Core.Bool.{Bool, true, false, _&&_, _||_, not}
+use mathlib.Core.Bool.{Bool, _&&_, _||_, not}
 use mathlib.Core.Option.{Option, some, none}
-use mathlib.Core.List.{List, [], _∷_}
-use Prim.Native.Nat.{ℕ, zero, suc, _+_, _*_, _-_, _≤_, _<_}
+use mathlib.Core.List.{List}
+use Prim.Native.Nat.{ℕ, zero, suc, _+_, _-_, _<_}
 use native.Mathlib.Omega.{arith}
 use native.Mathlib.Nat.{zero-add}
 use lib.Dec.{eqb, leb, ltb}
 use borrow.Author.Tests.{lt-ltb}
 use Rattle.codec.specs.Bytes.{chunk}
-use Rattle.codec.specs.Lists.{every}
 use Rattle.names.specs.declared.Name.{Name}
 use Rattle.numbers.specs.Nodes.{has, without}
 use Rattle.numbers.specs.Ids.{maker, count, clockOf}
@@ -25,8 +24,7 @@ use Rattle.slots.specs.TableHeaders.{tableHeaderOf, tableHeaderAt}
 use Rattle.slots.specs.Replicas.{replica-fields}
 use Rattle.slots.specs.Listings.{listed-fields}
 use Rattle.document.specs.Tables.{Table, find, headOf?, findEntry, entryOf?, isKey, slotsFrom, everySlot, replicaSlot, entrySlot, replicaIn, entryIn, replicasUsed, entriesUsed, tableOf}
-use Rattle.document.specs.Sound.{distinct, sameId, sameKey, rootIn, rootFirst, idsUnique, keysUnique, isRootId, isLive, heldAnd, isPlaceOf, shows, makerHolds, isPartOf, isParent, replicaKeeps, entryKeeps, rules}
-use Rattle.table.specs.declared.find.Found.{Found}
+use Rattle.document.specs.Sound.{distinct, sameId, sameKey, rootIn, isRootId, isLive, heldAnd, isPlaceOf, shows, makerHolds, isPartOf, isParent, replicaKeeps, entryKeeps, rules}
 use Rattle.table.specs.declared.find.Found.the-variants.{At, Nothing}
 use Rattle.table.specs.Slots.{firstReplica, firstEntry, found-slot, no-slot, every-slots, entriesIn, entries-count}
 

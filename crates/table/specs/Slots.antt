@@ -1,9 +1,9 @@
 -- Slots as loops pass them: the first that passes a test, how many pass, and whether all do, with the step and the end of
 -- each, and what they say of the lists of `document`. What the contracts of `table::find` cite. Assumes nothing.
-use mathlib.Core.Path.{_≡_, refl, ap, sym, subst, _∙_}
-use mathlib.Core.Bool.{Bool, true, false, _&&_, not, cond}
-use mathlib.Core.Option.{Option, some, none}
-use mathlib.Core.List.{List, [], _∷_}
+use mathlib.Core.Path.{_≡_, refl, ap, _∙_}
+use mathlib.Core.Bool.{Bool, true, false, _&&_, cond}
+use mathlib.Core.Option.{some, none}
+use mathlib.Core.List.{List, _∷_}
 use Prim.Native.Nat.{ℕ, zero, suc, _+_, _*_, _-_, _≤_, _<_}
 use native.Mathlib.Omega.{arith}
 use native.Mathlib.Nat.{mul-add}
@@ -12,7 +12,7 @@ use lib.ListN.{length}
 use Rattle.codec.specs.Bytes.{markedAt, u32At}
 use Rattle.codec.specs.Lists.{every}
 use Rattle.names.specs.declared.Name.{Name}
-use Rattle.names.specs.Names.{nameAt, sameName}
+use Rattle.names.specs.Names.{nameAt}
 use Rattle.records.specs.declared.head.Head.{Head}
 use Rattle.records.specs.declared.entry.Entry.{Entry}
 use Rattle.records.specs.Heads.{head-fields}
@@ -22,7 +22,6 @@ use Rattle.slots.specs.declared.listed.Listed.{Listed}
 use Rattle.slots.specs.Replicas.{replica-fields}
 use Rattle.slots.specs.Listings.{listed-fields}
 use Rattle.document.specs.Tables.{first, hasId, isKey, entriesOf, used, slotsFrom, everySlot, replicaSlot, entrySlot, replicaIn, entryIn}
-use Rattle.document.specs.Sound.{distinct}
 use Rattle.table.specs.declared.find.Found.{Found}
 use Rattle.table.specs.declared.find.Found.the-variants.{At, Nothing}
 

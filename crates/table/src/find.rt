@@ -4,7 +4,7 @@ use names::Name;
 use records::Entry;
 use records::Head;
 ghost use mathlib.Core.Path.{_≡_};
-ghost use Prim.Native.Nat.{ℕ, _+_, _*_, _≤_, _<_};
+ghost use Prim.Native.Nat.{_+_, _*_, _≤_, _<_};
 ghost use lib.ListN.{length};
 ghost use Rattle.document.specs.Tables.{replicasUsed, entriesUsed, entryIn, isKey};
 ghost use Rattle.table.specs.Slots.{firstReplica, firstEntry, entriesIn};

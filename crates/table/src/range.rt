@@ -5,7 +5,7 @@ use slots::Listed;
 use slots::Replica;
 use slots::TableHeader;
 ghost use mathlib.Core.Path.{_≡_};
-ghost use Prim.Native.Nat.{ℕ, _+_, _≤_, _<_};
+ghost use Prim.Native.Nat.{_+_, _≤_, _<_};
 ghost use lib.ListN.{length};
 ghost use Rattle.document.specs.Tables.{everySlot, tableInRange};
 ghost use Rattle.table.specs.Ranges.{replicaSlotFits, entrySlotFits};

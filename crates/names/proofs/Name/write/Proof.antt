@@ -2,7 +2,6 @@
 use native.Mathlib.Omega.{arith}
 use lib.ListN.{length}
 use mathlib.Core.Path.{_≡_, ap}
-use Prim.Native.Nat.{_+_}
 use Rattle.codec.specs.Bytes.{u8}
 use Rattle.codec.specs.Laws.{length-splice}
 use Rattle.names.specs.Names.{name-put}

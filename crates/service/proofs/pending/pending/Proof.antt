@@ -1,7 +1,6 @@
 -- `service::pending::pending` meets its contract: not sound, or the sum over the used slots. Assumes nothing.
 use mathlib.Core.Path.{_≡_, ap, sym, _∙_}
 use Prim.Native.Nat.{ℕ}
-use native.Mathlib.Omega.{arith}
 use borrow.Author.Needs.{needs}
 use Rattle.codec.specs.Lists.{passed, failed}
 use Rattle.document.specs.Tables.{tableOf, slotsFrom, replicaIn, replicasUsed}

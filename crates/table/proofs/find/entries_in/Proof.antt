@@ -8,6 +8,8 @@ use borrow.Author.Tests.{eq-eqb, ne-eqb}
 use mathlib.Core.Bool.{true, false}
 use mathlib.Core.Logic.{⊎-elim}
 use Rattle.table.specs.Slots.{isListedIn, entriesIn, countSlots, count-step, count-none, directory-at}
+use mathlib.Core.Path.{_≡_, sym, _∙_}
+use Prim.Native.Nat.{_+_, _-_, _≤_}
 use Rattle.table.proofs.find.entries_in.Statement.{statement}
 use Rattle.table.proofs.find.entries_in.Tie as tie
 

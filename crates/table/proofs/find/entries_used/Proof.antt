@@ -9,6 +9,8 @@ use Rattle.codec.specs.Lists.{passed, failed}
 use Rattle.records.specs.Entries.{entryMark}
 use Rattle.document.specs.Tables.{entriesUsed, used}
 use Rattle.table.specs.Slots.{used-step, used-none}
+use mathlib.Core.Path.{_≡_}
+use Prim.Native.Nat.{_+_, _*_, _-_, _≤_}
 use Rattle.table.proofs.find.entries_used.Statement.{statement}
 use Rattle.table.proofs.find.entries_used.Tie as tie
 

@@ -7,6 +7,8 @@ use borrow.Author.Needs.{needs}
 use mathlib.Core.Bool.{true, false}
 use Rattle.document.specs.Tables.{isKey, entryIn}
 use Rattle.table.specs.Slots.{firstSlot, firstEntry, first-step, first-none}
+use mathlib.Core.Path.{_≡_, sym, _∙_}
+use Prim.Native.Nat.{ℕ, _-_, _≤_}
 use Rattle.table.proofs.find.entry.Statement.{statement}
 use Rattle.table.proofs.find.entry.Tie as tie
 

@@ -8,6 +8,8 @@ use borrow.Author.Tests.{eq-eqb, ne-eqb}
 use mathlib.Core.Bool.{true, false}
 use Rattle.document.specs.Tables.{hasId, replicaIn}
 use Rattle.table.specs.Slots.{firstSlot, firstReplica, first-step, first-none, id-at}
+use mathlib.Core.Path.{_≡_, sym, _∙_}
+use Prim.Native.Nat.{ℕ, _-_, _≤_}
 use Rattle.table.proofs.find.replica.Statement.{statement}
 use Rattle.table.proofs.find.replica.Tie as tie
 

@@ -9,6 +9,8 @@ use Rattle.codec.specs.Lists.{passed, failed}
 use Rattle.records.specs.Heads.{headMark}
 use Rattle.document.specs.Tables.{replicasUsed, used}
 use Rattle.table.specs.Slots.{used-step, used-none}
+use mathlib.Core.Path.{_≡_}
+use Prim.Native.Nat.{_+_, _*_, _-_, _≤_}
 use Rattle.table.proofs.find.replicas_used.Statement.{statement}
 use Rattle.table.proofs.find.replicas_used.Tie as tie
 

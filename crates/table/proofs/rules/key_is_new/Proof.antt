@@ -2,18 +2,17 @@
 -- Assumes nothing.
 use Rattle.table.specs.Rules.{key-test}
 use mathlib.Core.Path.{_≡_, refl, ap, sym, _∙_}
-use Prim.Native.Nat.{ℕ, _+_, _*_, _-_, _≤_, _<_}
+use Prim.Native.Nat.{ℕ, _-_, _≤_}
 use native.Mathlib.Omega.{arith}
 use borrow.Author.Needs.{needs}
-use mathlib.Core.Bool.{Bool, not}
+use mathlib.Core.Bool.{not}
 use Rattle.codec.specs.Lists.{and-stop, and-go}
-use Rattle.slots.specs.declared.listed.Listed.{Listed}
 use Rattle.document.specs.Tables.{everySlot, entryIn}
 use Rattle.document.specs.Sound.{sameKey}
 use Rattle.table.specs.Rules.{keyNew}
 use Rattle.table.specs.Slots.{slots-step, slots-none}
 use mathlib.Core.Bool.{not}
-use Rattle.document.specs.Tables.{everySlot, entryIn, isKey}
+use Rattle.document.specs.Tables.{everySlot, entryIn}
 use Rattle.table.proofs.rules.key_is_new.Statement.{statement}
 use Rattle.table.proofs.rules.key_is_new.Tie as tie
 

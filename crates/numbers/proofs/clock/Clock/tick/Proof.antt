@@ -1,6 +1,6 @@
 -- `numbers::clock::Clock::tick` meets its contract: the test picks the larger. Assumes nothing.
 use mathlib.Core.Path.{_≡_, ap, _∙_}
-use Prim.Native.Nat.{ℕ, _+_, max}
+use Prim.Native.Nat.{ℕ, _+_}
 use native.Mathlib.Omega.{arith}
 use Rattle.numbers.specs.Clocks.{tickedAt, newClock}
 use borrow.Author.Needs.{needs}

@@ -4,7 +4,7 @@ use borrow.Author.Tests.{le-leb, lt-leb}
 use Rattle.codec.specs.Lists.{and-go, and-stop, failed, passed}
 use Rattle.records.specs.Entries.{entryFits}
 use borrow.Author.Needs.{needs}
-use borrow.Author.Tests.{le-leb, lt-leb, not-true, not-false}
+use borrow.Author.Tests.{le-leb, lt-leb}
 use Rattle.codec.specs.Lists.{and-go, and-stop}
 use Rattle.records.proofs.entry.Entry.fits.Statement.{statement}
 use Rattle.records.proofs.entry.Entry.fits.Tie as tie
