@@ -92,6 +92,12 @@ fn call_with(table: &mut [u8], header: &[u8; 64], payload: &[u8], out: &mut [u8]
 // The call that the code names.
 fn made(table: &mut [u8], header: &[u8; 64], payload: &[u8], out: &mut [u8]) -> Answer {
     let code = header[0];
+    if code == 1 {
+        return service::start::start(table, wire::number(header, 0), wire::number(header, 1));
+    }
+    if code == 10 {
+        return service::acknowledged::acknowledged(table, payload);
+    }
     if code == 7 {
         return service::list::list(table, wire::number(header, 0), out);
     }

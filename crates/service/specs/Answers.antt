@@ -1,6 +1,6 @@
 -- What a call answers, from its outcome, and the first refusal of all: what every contract of `service` cites.
 -- Assumes nothing.
-use mathlib.Core.Path.{_≡_, ap}
+use mathlib.Core.Path.{_≡_, ap, sym, _∙_}
 use mathlib.Core.Bool.{Bool, true, false, cond}
 use mathlib.Core.Option.{some, none}
 use mathlib.Core.List.{List}
@@ -8,9 +8,9 @@ use Prim.Native.Nat.{ℕ, _+_, _*_, _≤_}
 use native.Mathlib.Omega.{arith}
 use lib.ListN.{length}
 use Rattle.codec.specs.Lists.{and-true}
-use Rattle.document.specs.Tables.{Table, tableOf, tableInRange}
+use Rattle.document.specs.Tables.{Table, tableOf, tableBytes, tableInRange}
 use Rattle.document.specs.Sound.{soundBytes, readSound, rules}
-use Rattle.document.specs.Outcomes.{Outcome, refused, numberOf, valueOf}
+use Rattle.document.specs.Outcomes.{Outcome, refused, done, numberOf, valueOf, tableAfter}
 use Rattle.document.specs.Calls.{onSound, ifSound}
 use Rattle.table.specs.Ranges.{range-length}
 use Rattle.service.specs.declared.Answer.{Answer}
@@ -39,3 +39,16 @@ is-sound l f e = ap (λ (b : Bool). ifSound (cond b (some (tableOf l)) none) f) 
 pub sound-length : (l : List ℕ) → soundBytes l ≡ true → 13344 ≤ length l
 unfolding soundBytes
 sound-length l e = omega (arith, range-length l (and-true (tableInRange l) (rules (tableOf l)) e .0))
+
+-- ---- both halves of a contract, from the outcome
+
+-- "Refusals return value 0 and change no byte."
+pub refuses : {o : Outcome} {k : ℕ} (l : List ℕ) → o ≡ refused k →
+    (record { number = k; value = 0 } ≡ answerOf o) × (l ≡ tableAfter o l)
+refuses l e = (ap answerOf (sym e), ap (λ (o : Outcome). tableAfter o l) (sym e))
+
+-- what is done gives its value, and the bytes of its table
+pub does : {o : Outcome} {v : ℕ} {t : Table} {w : List ℕ} (l : List ℕ) {l' : List ℕ} → o ≡ done v t w →
+    l' ≡ tableBytes t →
+    (record { number = 0; value = v } ≡ answerOf o) × (l' ≡ tableAfter o l)
+does l e b = (ap answerOf (sym e), b ∙ ap (λ (o : Outcome). tableAfter o l) (sym e))

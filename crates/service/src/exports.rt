@@ -3,8 +3,8 @@ use crate::Answer;
 ghost use mathlib.Core.Path.{_≡_};
 ghost use Prim.Native.Nat.{_+_, _*_};
 ghost use lib.ListN.{length};
-ghost use Rattle.document.specs.Outcomes.{outputAfter};
-ghost use Rattle.document.specs.Calls.{list, pending};
+ghost use Rattle.document.specs.Outcomes.{outputAfter, tableAfter};
+ghost use Rattle.document.specs.Calls.{acknowledged, list, pending, start};
 ghost use Rattle.service.specs.Answers.{packed, packedAnswer};
 
 // Number and value in one.
@@ -12,6 +12,15 @@ fn pack(answer: Answer) -> u64
     ensures { λ r. ⌜ r ≡ packedAnswer answer ⌝ }
 {
     answer.number as u64 * 4294967296 + answer.value as u64
+}
+
+#[no_mangle]
+pub extern "C" fn rumbezalo_start(table: &mut [u8], node: u64, n: u64) -> u64
+    ensures { λ r.
+        ⌜ (r ≡ packed (start (now (table .entry)) node n))
+        × (now (table .exit) ≡ tableAfter (start (now (table .entry)) node n) (now (table .entry))) ⌝ }
+{
+    pack(crate::start::start(table, node, n))
 }
 
 #[no_mangle]
@@ -28,4 +37,14 @@ pub extern "C" fn rumbezalo_pending(table: &[u8]) -> u64
     ensures { λ r. ⌜ r ≡ packed (pending (now (table .entry))) ⌝ }
 {
     pack(crate::pending::pending(table))
+}
+
+#[no_mangle]
+pub extern "C" fn rumbezalo_acknowledged(table: &mut [u8], message: &[u8]) -> u64
+    ensures { λ r.
+        ⌜ (r ≡ packed (acknowledged (now (table .entry)) (now (message .entry))))
+        × (now (table .exit)
+        ≡ tableAfter (acknowledged (now (table .entry)) (now (message .entry))) (now (table .entry))) ⌝ }
+{
+    pack(crate::acknowledged::acknowledged(table, message))
 }
