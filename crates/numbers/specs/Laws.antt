@@ -1,5 +1,5 @@
--- Laws of `Nodes`: which nodes are in a set that was joined or had one taken out, and how the code's shifts meet the
--- definitions. Assumes nothing.
+-- Laws of nodes, ids and stamps: which nodes are in a set that was joined or had one taken out, how the code's shifts meet
+-- the definitions, the parts of an id and of a stamp, and the order of stamps. Assumes nothing.
 use mathlib.Core.Path.{_≡_, refl, ap, sym, _∙_}
 use mathlib.Core.Bool.{Bool, true, false, _||_, cond, true≢false}
 use Prim.Native.Nat.{ℕ, zero, suc, _+_, _*_, _-_, _/_, _%_, _^_, _≤_, _<_, max}
@@ -10,6 +10,8 @@ use lib.Dec.{eqb, lit<}
 use lib.Pow.{pow-pos, pow-lt, pow-mono, pow-add, shl-exact, high, ones-split, ones-lt}
 use lib.Bits.{or-shr, or-step, or-lt, bitXor, xor-shr, xor-step, differ}
 use borrow.Author.Tests.{eqb-true, eq-eqb, ne-eqb, lt-ltb, le-ltb, ltb-true}
+use Rattle.numbers.specs.Clocks.{newClock}
+use Rattle.numbers.specs.Ids.{idOf, maker, count, stampOf, clockOf, issuer}
 use Rattle.numbers.specs.Nodes.{has, single, all, join, without, isSet}
 
 -- ---- as the code has them
@@ -167,3 +169,28 @@ has-all n (suc i) l h =
     ap (λ (k : ℕ). 2 ^ k - 1) {x = n} {y = suc m + i} (omega arith) ∙ ones-split (suc m) i in
     let shifted : (2 ^ n - 1) / 2 ^ i ≡ 2 ^ suc m - 1 = ap (λ (x : ℕ). x / 2 ^ i) split ∙ high (2 ^ suc m - 1) i (ones-lt i) in
     eq-eqb ((2 ^ n - 1) / 2 ^ i % 2) 1 (rw shifted (omega (arith, pow-suc 2 m, pow-pos m)))
+
+-- ---- ids and stamps: their parts, and the order of stamps
+
+pub maker-of : (node c : ℕ) → c < 16777216 → maker (idOf node c) ≡ node
+maker-of node c h = omega arith
+
+pub count-of : (node c : ℕ) → c < 16777216 → count (idOf node c) ≡ c
+count-of node c h = omega arith
+
+pub clock-of : (clock node : ℕ) → node < 256 → clockOf (stampOf clock node) ≡ clock
+clock-of clock node h = omega arith
+
+pub issuer-of : (clock node : ℕ) → node < 256 → issuer (stampOf clock node) ≡ node
+issuer-of clock node h = omega arith
+
+-- a later clock makes the greater stamp, whoever issued it; at one clock the greater node does
+pub later-clock : (c d i j : ℕ) → c < d → i < 256 → stampOf c i < stampOf d j
+later-clock c d i j h l = omega arith
+
+pub same-clock : (c i j : ℕ) → i < j → stampOf c i < stampOf c j
+same-clock c i j h = omega arith
+
+-- a new stamp is above every stamp of a clock that was seen
+pub new-above : (now highest node s : ℕ) → clockOf s ≤ highest → s < stampOf (newClock now highest) node
+new-above now highest node s h = omega arith
