@@ -5,11 +5,10 @@ use mathlib.Core.Bool.{true, false, _&&_}
 use mathlib.Core.List.{List, [], _∷_, _++_, append-assoc, append-nil}
 use Prim.Native.Nat.{ℕ, zero, suc, _+_, _-_, _≤_, _<_}
 use native.Mathlib.Numerals.{add-one}
-use native.Mathlib.Nat.{zero-add, suc-add}
 use native.Mathlib.Omega.{arith}
 use lib.Dec.{eqb, leb}
 use lib.ListN.{length, drop, getD, set, length-append, drop-of-length-le}
-use lib.Seq.{drop-cons, drop-at, set-at}
+use lib.Seq.{drop-cons, set-at}
 use borrow.Author.Tests.{leb-true}
 use Rattle.codec.specs.Bytes.{splice, zeros}
 use Rattle.codec.specs.Laws.{splice-splice}
@@ -25,21 +24,14 @@ use Rattle.slots.specs.Listings.{listedBytes}
 use Rattle.document.specs.Tables.{fresh, rows, padded, tableBytes}
 use Rattle.document.specs.Outcomes.{refused, done, judged}
 use Rattle.document.specs.Calls.{start}
+use Rattle.service.specs.Writes.{length-zeros, zeros-add, zeros-rest}
 
--- ---- zeros
+-- ---- zeros, written one by one
 
-pub length-zeros : (n : ℕ) → length (zeros n) ≡ n
-length-zeros zero = refl
-length-zeros (suc n) = ap suc (length-zeros n)
-
--- the last of them, in front of what follows
+-- one more, in front of what follows
 zeros-last : (n : ℕ) (r : List ℕ) → zeros n ++ (0 ∷ r) ≡ zeros (suc n) ++ r
 zeros-last zero r = refl
 zeros-last (suc n) r = ap (λ (l : List ℕ). 0 ∷ l) (zeros-last n r)
-
-zeros-add : (m n : ℕ) → zeros (m + n) ≡ zeros m ++ zeros n
-zeros-add zero n = ap zeros (zero-add n)
-zeros-add (suc m) n = rw suc-add (ap (λ (l : List ℕ). 0 ∷ l) (zeros-add m n))
 
 -- a turn of the loop that writes them one by one, and its end
 pub zeros-step : (l : List ℕ) (i : ℕ) → i < length l → set (zeros i ++ drop i l) i 0 ≡ zeros (i + 1) ++ drop (i + 1) l
@@ -55,13 +47,6 @@ zeros-end l i h k =
     ap (λ (r : List ℕ). zeros i ++ r) (drop-of-length-le l k) ∙ append-nil (zeros i) ∙ ap zeros same
 
 -- ---- parts written over zeros
-
--- what is left of the zeros behind the first n
-zeros-rest : (k n : ℕ) → n ≤ k → drop n (zeros k) ≡ zeros (k - n)
-zeros-rest k n h =
-    let split : k ≡ n + (k - n) = omega arith in
-    ap (λ (m : ℕ). drop n (zeros m)) split ∙ ap (drop n) (zeros-add n (k - n))
-    ∙ drop-at (zeros n) (zeros (k - n)) n (length-zeros n)
 
 -- a header, one part of slots that are used, and one of none, each filled up with zeros
 filled : (h r e : List ℕ) (k p q : ℕ) → k ≡ length h + p + q → length r ≤ p → e ≡ [] →

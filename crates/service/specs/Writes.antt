@@ -1,10 +1,10 @@
--- The bytes of a table after a write: a replica slot, an entry slot, or the pending set in a replica slot. Each law
--- says which table's bytes they then are. Assumes nothing.
+-- The bytes of a table after a write: the header, a used slot, the next slot, or the pending set in a replica slot.
+-- Each law says which table's bytes they then are. Assumes nothing.
 use mathlib.Core.Path.{_≡_, refl, ap, sym, _∙_}
-use mathlib.Core.Bool.{Bool, true}
-use mathlib.Core.List.{List, [], _∷_, _++_, append-assoc}
+use mathlib.Core.Bool.{Bool, true, false, cond}
+use mathlib.Core.List.{List, [], _∷_, _++_, append-assoc, append-nil}
 use Prim.Native.Nat.{ℕ, zero, suc, _+_, _*_, _-_, _≤_, _<_}
-use native.Mathlib.Nat.{add-assoc, add-zero, zero-add, mul-zero, mul-suc, mul-le-mul-left}
+use native.Mathlib.Nat.{add-assoc, add-zero, zero-add, suc-add, mul-zero, mul-suc, mul-le-mul-left}
 use native.Mathlib.Omega.{arith}
 use lib.Dec.{eqb}
 use lib.ListN.{length, take, drop, set, length-append, length-set, take-append-drop}
@@ -12,17 +12,38 @@ use lib.Seq.{take-append-le, drop-append-le, take-append-add, drop-append-add, d
 use Rattle.codec.specs.Bytes.{chunk, splice, bytesOf, zeros, Bytes}
 use Rattle.codec.specs.Laws.{length-chunk, length-splice, bytes-chunk}
 use Rattle.codec.specs.Lists.{and-true}
+use Rattle.records.specs.declared.head.Head.{Head}
 use Rattle.records.specs.Heads.{headBytes}
 use Rattle.slots.specs.declared.replica.Replica.{Replica}
 use Rattle.slots.specs.declared.listed.Listed.{Listed}
 use Rattle.slots.specs.TableHeaders.{tableHeaderBytes, tableHeaderInRange, length-tableHeaderBytes}
-use Rattle.slots.specs.Replicas.{replicaBytes, replicaInRange, replica-back}
+use Rattle.slots.specs.Replicas.{replicaBytes, replicaInRange, replica-back, length-replicaBytes}
 use Rattle.slots.specs.Listings.{listedBytes}
 use Rattle.document.specs.Layouts.{replicaLayout, listedLayout}
 use Rattle.document.specs.Reading.{bytes-of-table}
-use Rattle.document.specs.Tables.{Table, withReplicas, withEntries, headerOf, rows, padded, tableBytes, replicaSlot, entrySlot, replicasUsed, replicaIn, everySlot, tableOf, tableInRange}
+use Rattle.document.specs.Steps.{renewed, putHead}
+use Rattle.document.specs.Tables.{Table, hasId, slotsFrom, withReplicas, withEntries, headerOf, rows, padded, tableBytes, replicaSlot, entrySlot, replicasUsed, entriesUsed, replicaIn, entryIn, everySlot, tableOf, tableInRange}
 use Rattle.document.specs.Rows.{Layout, length-rows, length-padded, length-slots, used-le}
+use Rattle.table.specs.declared.find.Found.the-variants.{At}
+use Rattle.table.specs.Slots.{firstSlot, found-slot}
 use Rattle.table.specs.Ranges.{range-length}
+
+-- ---- zeros: how many, in two parts, and without the first n
+
+pub length-zeros : (n : ℕ) → length (zeros n) ≡ n
+length-zeros zero = refl
+length-zeros (suc n) = ap suc (length-zeros n)
+
+pub zeros-add : (m n : ℕ) → zeros (m + n) ≡ zeros m ++ zeros n
+zeros-add zero n = ap zeros (zero-add n)
+zeros-add (suc m) n = rw suc-add (ap (λ (l : List ℕ). 0 ∷ l) (zeros-add m n))
+
+pub zeros-rest : (k n : ℕ) → n ≤ k → drop n (zeros k) ≡ zeros (k - n)
+zeros-rest k n h =
+    let split : k ≡ n + (k - n) = omega arith in
+    ap (λ (m : ℕ). drop n (zeros m)) split
+    ∙ ap (drop n) (zeros-add n (k - n))
+    ∙ drop-at (zeros n) (zeros (k - n)) n (length-zeros n)
 
 -- ---- a splice of a string in two parts: in the first, and in the second
 
@@ -96,7 +117,52 @@ padded-set L n xs i x h =
     ∙ ap (λ (r : List ℕ). r ++ zeros (n - length (rows (L .bytes) xs))) (rows-set L xs i x h)
     ∙ ap (λ (k : ℕ). rows (L .bytes) (set xs i x) ++ zeros (n - k)) (sym size)
 
--- ---- one slot of a table
+-- the next slot: one record more
+rows-add : {A : Type 0} (L : Layout A) (xs : List A) (x : A) →
+    rows (L .bytes) (xs ++ (x ∷ [])) ≡ rows (L .bytes) xs ++ L .bytes x
+unfolding rows
+rows-add L [] x = append-nil (L .bytes x)
+rows-add L (y ∷ ys) x =
+    ap (λ (r : List ℕ). L .bytes y ++ r) (rows-add L ys x)
+    ∙ sym (append-assoc (L .bytes y) (rows (L .bytes) ys) (L .bytes x))
+
+padded-add : {A : Type 0} (L : Layout A) (n : ℕ) (xs : List A) (x : A) → length xs < n →
+    splice (padded (L .width * n) (rows (L .bytes) xs)) (L .width * length xs) (L .bytes x)
+    ≡ padded (L .width * n) (rows (L .bytes) (xs ++ (x ∷ [])))
+unfolding splice
+padded-add L n xs x h =
+    let w : ℕ = L .width in
+    let r : List ℕ = rows (L .bytes) xs in
+    let k : ℕ = w * n - length r in
+    let v : List ℕ = L .bytes x in
+    let more : length (rows (L .bytes) (xs ++ (x ∷ []))) ≡ length r + length v =
+    ap length (rows-add L xs x) ∙ length-append r v in
+    let most : suc (length xs) ≤ n = omega arith in
+    let fits : length v ≤ k =
+    omega (arith, length-rows L xs, L .sized x, mul-suc w (length xs), mul-le-mul-left w most) in
+    let free : k - (0 + length v) ≡ w * n - length (rows (L .bytes) (xs ++ (x ∷ []))) = omega arith in
+    ap (λ (o : ℕ). splice (r ++ zeros k) o v) (sym (add-zero (w * length xs)))
+    ∙ splice-right r (zeros k) (w * length xs) 0 v (length-rows L xs)
+    ∙ ap (λ (z : List ℕ). r ++ (v ++ z)) (zeros-rest k (0 + length v) (omega arith) ∙ ap zeros free)
+    ∙ sym (append-assoc r v _)
+    ∙ ap (λ (z : List ℕ). z ++ zeros (w * n - length (rows (L .bytes) (xs ++ (x ∷ []))))) (sym (rows-add L xs x))
+
+-- ---- the header, or one slot, of a table
+
+-- the header, rewritten: the table u differs from t in nothing else
+pub header-rewritten : (t u : Table) → u .replicas ≡ t .replicas → u .entries ≡ t .entries →
+    splice (tableBytes t) 0 (tableHeaderBytes (headerOf u)) ≡ tableBytes u
+unfolding tableBytes splice
+header-rewritten t u p q =
+    let old : List ℕ = tableHeaderBytes (headerOf t) in
+    let new : List ℕ = tableHeaderBytes (headerOf u) in
+    let part : List ℕ = padded 3072 (rows replicaBytes (u .replicas)) in
+    let rest : List ℕ = padded 10240 (rows listedBytes (t .entries)) in
+    let size : length old ≡ 0 + length new =
+    length-tableHeaderBytes (headerOf t) ∙ sym (length-tableHeaderBytes (headerOf u)) ∙ sym (zero-add (length new)) in
+    ap (λ (r : List ℕ). new ++ r) (drop-at old _ (0 + length new) size)
+    ∙ ap (λ (rs : List Replica). new ++ (padded 3072 (rows replicaBytes rs) ++ rest)) (sym p)
+    ∙ ap (λ (xs : List Listed). new ++ (part ++ padded 10240 (rows listedBytes xs))) (sym q)
 
 -- replica slot i, rewritten
 pub replica-rewritten : (t : Table) (i : ℕ) (r : Replica) → i < length (t .replicas) →
@@ -110,6 +176,38 @@ replica-rewritten t i r h =
     (simp length-append (omega (arith, room (replicaLayout 0 (omega arith)) (t .replicas) i r h)))
     ∙ ap (λ (l : List ℕ). l ++ padded 10240 (rows listedBytes (t .entries)))
     (padded-set (replicaLayout 0 (omega arith)) 3072 (t .replicas) i r h))
+
+-- the next replica slot, written
+pub replica-added : (t : Table) (r : Replica) → length (t .replicas) < 64 →
+    splice (tableBytes t) (replicaSlot (length (t .replicas))) (replicaBytes r)
+    ≡ tableBytes (withReplicas t (t .replicas ++ (r ∷ [])))
+unfolding tableBytes
+replica-added t r h =
+    let part : List ℕ = padded 3072 (rows replicaBytes (t .replicas)) in
+    let size : length part ≡ 3072 = length-padded (replicaLayout 0 (omega arith)) 64 (t .replicas) (omega arith) in
+    let o : ℕ = 48 * length (t .replicas) in
+    splice-right (tableHeaderBytes (headerOf t)) _ 32 o (replicaBytes r) (length-tableHeaderBytes (headerOf t))
+    ∙ ap (λ (l : List ℕ). tableHeaderBytes (headerOf t) ++ l)
+    (splice-left part (padded 10240 (rows listedBytes (t .entries))) o (replicaBytes r)
+    (omega (arith, length-replicaBytes r))
+    ∙ ap (λ (l : List ℕ). l ++ padded 10240 (rows listedBytes (t .entries)))
+    (padded-add (replicaLayout 0 (omega arith)) 64 (t .replicas) r h))
+
+-- the next entry slot, written
+pub listed-added : (t : Table) (x : Listed) → length (t .replicas) ≤ 64 → length (t .entries) < 256 →
+    splice (tableBytes t) (entrySlot (length (t .entries))) (listedBytes x)
+    ≡ tableBytes (withEntries t (t .entries ++ (x ∷ [])))
+unfolding tableBytes
+listed-added t x few h =
+    let part : List ℕ = padded 3072 (rows replicaBytes (t .replicas)) in
+    let size : length part ≡ 3072 = length-padded (replicaLayout 0 (omega arith)) 64 (t .replicas) few in
+    let o : ℕ = 40 * length (t .entries) in
+    ap (λ (k : ℕ). splice (tableBytes t) k (listedBytes x)) {x = 3104 + o} {y = 32 + (3072 + o)} (omega arith)
+    ∙ splice-right (tableHeaderBytes (headerOf t)) _ 32 (3072 + o) (listedBytes x)
+    (length-tableHeaderBytes (headerOf t))
+    ∙ ap (λ (l : List ℕ). tableHeaderBytes (headerOf t) ++ l)
+    (splice-right part (padded 10240 (rows listedBytes (t .entries))) 3072 o (listedBytes x) size
+    ∙ ap (λ (l : List ℕ). part ++ l) (padded-add (listedLayout 0 (omega arith)) 256 (t .entries) x h))
 
 -- entry slot i, rewritten
 pub listed-rewritten : (t : Table) (i : ℕ) (x : Listed) → length (t .replicas) ≤ 64 → i < length (t .entries) →
@@ -168,6 +266,16 @@ module _ (l : List ℕ) (inside : tableInRange l ≡ true) (bytes : Bytes l) whe
       ap (λ (k : List ℕ). splice k (replicaSlot i) (replicaBytes r)) (sym (bytes-of-table l inside bytes))
       ∙ replica-rewritten (tableOf l) i r (omega (arith, replicas-held))
 
+  -- entry slot i is rewritten
+  pub entry-rewritten : (i : ℕ) (x : Listed) → i < entriesUsed l →
+      splice l (entrySlot i) (listedBytes x) ≡ tableBytes (withEntries (tableOf l) (set (tableOf l .entries) i x))
+  unfolding tableOf
+  entry-rewritten i x h =
+      let few : replicasUsed l ≤ 64 = used-le (replicaLayout 0 (omega arith)) l 32 64 in
+      let held = length-slots (entryIn l) 0 (entriesUsed l) in
+      ap (λ (k : List ℕ). splice k (entrySlot i) (listedBytes x)) (sym (bytes-of-table l inside bytes))
+      ∙ listed-rewritten (tableOf l) i x (omega (arith, replicas-held)) (omega (arith, held))
+
   -- the bytes of the replica in slot i are those that stand there
   pub slot-bytes : (i : ℕ) → i < replicasUsed l → replicaBytes (replicaIn l i) ≡ chunk l (replicaSlot i) 48
   slot-bytes i h =
@@ -189,3 +297,28 @@ module _ (l : List ℕ) (inside : tableInRange l ≡ true) (bytes : Bytes l) whe
       ∙ ap (λ (c : List ℕ). splice l (replicaSlot i) (splice c 44 (p ∷ []))) (sym (slot-bytes i h))
       ∙ ap (splice l (replicaSlot i)) (pending-byte (replicaIn l i) p)
       ∙ slot-rewritten i (withPending (replicaIn l i) p) h
+
+-- ---- a head put where its id was found
+
+pub put-found : (h : Head) (g : ℕ → Replica) (s n i : ℕ) → firstSlot (λ (k : ℕ). hasId (h .id) (g k)) s n ≡ At i →
+    putHead h (slotsFrom g s n) ≡ set (slotsFrom g s n) (i - s) (renewed h (g i))
+unfolding putHead firstSlot slotsFrom
+put-found h g s zero i e = let z : _≡_ {A = ℕ} 0 1 = cc in absurd (omega arith)
+put-found h g s (suc n) i e =
+    go (hasId (h .id) (g s)) e (λ f. found-slot (hasId (h .id)) g (suc s) n i f .0) (put-found h g (suc s) n i)
+  where
+    go : (b : Bool) → cond b (At s) (firstSlot (λ (k : ℕ). hasId (h .id) (g k)) (suc s) n) ≡ At i →
+        (firstSlot (λ (k : ℕ). hasId (h .id) (g k)) (suc s) n ≡ At i → suc s ≤ i) →
+        (firstSlot (λ (k : ℕ). hasId (h .id) (g k)) (suc s) n ≡ At i →
+        putHead h (slotsFrom g (suc s) n) ≡ set (slotsFrom g (suc s) n) (i - suc s) (renewed h (g i))) →
+        cond b (renewed h (g s) ∷ slotsFrom g (suc s) n) (g s ∷ putHead h (slotsFrom g (suc s) n))
+        ≡ set (g s ∷ slotsFrom g (suc s) n) (i - s) (renewed h (g i))
+    go true f low ih =
+        let same : s ≡ i = cc in
+        ap (λ (k : ℕ). renewed h (g k) ∷ slotsFrom g (suc s) n) same
+        ∙ ap (λ (k : ℕ). set (g s ∷ slotsFrom g (suc s) n) k (renewed h (g i))) {x = 0} {y = i - s} (omega arith)
+    go false f low ih =
+        let least = low f in
+        ap (λ (r : List Replica). g s ∷ r) (ih f)
+        ∙ ap (λ (k : ℕ). set (g s ∷ slotsFrom g (suc s) n) k (renewed h (g i))) {x = suc (i - suc s)} {y = i - s}
+        (omega arith)

@@ -78,7 +78,8 @@ fn clear(table: &mut [u8], a: Acknowledgement) -> Answer
 // Takes an acknowledgement that came in.
 pub fn acknowledged(table: &mut [u8], message: &[u8]) -> Answer
     ensures { λ r. ⌜ (r ≡ answerOf (acknowledged (now (table .entry)) (now (message .entry))))
-        × (now (table .exit) ≡ tableAfter (acknowledged (now (table .entry)) (now (message .entry))) (now (table .entry))) ⌝ }
+        × (now (table .exit) ≡ tableAfter (acknowledged (now (table .entry)) (now (message .entry)))
+        (now (table .entry))) ⌝ }
 {
     if !table::is_sound(table) {
         return Answer {

@@ -1,9 +1,8 @@
 -- `table::find::replicas_used` meets its contract. The loop's invariant: i slots are used, and those that are used from i on.
 -- Assumes nothing.
-use mathlib.Core.Path.{_≡_, refl, ap, sym, _∙_}
-use Prim.Native.Nat.{ℕ, _+_, _*_, _-_, _≤_, _<_}
+use mathlib.Core.Path.{_≡_}
+use Prim.Native.Nat.{_+_, _*_, _-_, _≤_}
 use native.Mathlib.Omega.{arith}
-use native.Mathlib.Nat.{sub-zero}
 use borrow.Author.Needs.{needs}
 use Rattle.codec.specs.Lists.{passed, failed}
 use Rattle.records.specs.Heads.{headMark}
