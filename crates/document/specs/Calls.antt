@@ -84,9 +84,12 @@ changedBy f t (some h) = f h
 
 -- ---- start, create, unlink, rename, remove, spread
 
+abbrev pub startRefusals : List ℕ → ℕ → ℕ → List Refusal
+startRefusals l node n = when 1 (not (eqb (length l) tableSize)) ∷ when 2 (not (isSize n && isNode n node)) ∷ []
+
 unfoldable pub start : List ℕ → ℕ → ℕ → Outcome
 start l node n =
-    judged (when 1 (not (eqb (length l) tableSize)) ∷ when 2 (not (isSize n && isNode n node)) ∷ []) (done 0 (fresh node n) [])
+    judged (startRefusals l node n) (done 0 (fresh node n) [])
 
 -- "Create: next id, new stamp, holders are the given set with the own node."
 abbrev pub newHead : ℕ → Name → ℕ → Table → Head → ℕ → Head
@@ -105,12 +108,11 @@ newHead kind name set t p stamp =
 unfoldable pub created : ℕ → ℕ → Name → ℕ → Table → Head → Table
 created now kind name set t p = settle t (issue now (newHead kind name set t p) (withNext t (t .next + 1)))
 
-unfoldable pub createIn : ℕ → ℕ → ℕ → List ℕ → ℕ → Table → Outcome
-createIn now d kind name set t =
+abbrev pub createRefusals : ℕ → ℕ → ℕ → List ℕ → ℕ → Table → List Refusal
+createRefusals now d kind name set t =
     let p = headOf t d in
     let after = changedBy (created now kind (nameFrom name) set t) t p in
-    judged
-    (when 2 (not (isNow now && (isWithin 1 kind 2 && (isText name && isSet (t .nodes) set))))
+    when 2 (not (isNow now && (isWithin 1 kind 2 && (isText name && isSet (t .nodes) set))))
     ∷ when 6 (notHeld p)
     ∷ when 7 (isDead p)
     ∷ when 8 (notDirectory p)
@@ -118,8 +120,13 @@ createIn now d kind name set t =
     ∷ when 11 (deepest p)
     ∷ when 16 (tooMany after)
     ∷ when 17 (pastEnd after)
-    ∷ [])
-    (done (idOf (t .own) (t .next)) after [])
+    ∷ []
+
+unfoldable pub createIn : ℕ → ℕ → ℕ → List ℕ → ℕ → Table → Outcome
+createIn now d kind name set t =
+    let p = headOf t d in
+    let after = changedBy (created now kind (nameFrom name) set t) t p in
+    judged (createRefusals now d kind name set t) (done (idOf (t .own) (t .next)) after [])
 
 abbrev pub create : List ℕ → ℕ → ℕ → ℕ → List ℕ → ℕ → Outcome
 create l now d kind name set = onSound l (createIn now d kind name set)
@@ -128,20 +135,24 @@ create l now d kind name set = onSound l (createIn now d kind name set)
 unfoldable pub killed : ℕ → Table → Head → Table
 killed now t h = settle t (issue now (withState h 0) t)
 
-unfoldable pub unlinkIn : ℕ → ℕ → Table → Outcome
-unlinkIn now id t =
+abbrev pub unlinkRefusals : ℕ → ℕ → Table → List Refusal
+unlinkRefusals now id t =
     let h = headOf t id in
     let after = changedBy (killed now t) t h in
-    judged
-    (when 2 (not (isNow now))
+    when 2 (not (isNow now))
     ∷ when 6 (notHeld h)
     ∷ when 7 (isDead h)
     ∷ when 8 (notFile h)
     ∷ when 12 (placeNotHeld t h)
     ∷ when 16 (tooMany after)
     ∷ when 17 (pastEnd after)
-    ∷ [])
-    (done 0 after [])
+    ∷ []
+
+unfoldable pub unlinkIn : ℕ → ℕ → Table → Outcome
+unlinkIn now id t =
+    let h = headOf t id in
+    let after = changedBy (killed now t) t h in
+    judged (unlinkRefusals now id t) (done 0 after [])
 
 abbrev pub unlink : List ℕ → ℕ → ℕ → Outcome
 unlink l now id = onSound l (unlinkIn now id)
@@ -150,13 +161,12 @@ unlink l now id = onSound l (unlinkIn now id)
 unfoldable pub renamed : ℕ → Name → Table → Head → Head → Table
 renamed now name t p h = settle t (issue now (withPlace h p name) t)
 
-unfoldable pub renameIn : ℕ → ℕ → ℕ → List ℕ → Table → Outcome
-renameIn now id d name t =
+abbrev pub renameRefusals : ℕ → ℕ → ℕ → List ℕ → Table → List Refusal
+renameRefusals now id d name t =
     let h = headOf t id in
     let p = headOf t d in
     let after = changedBy (λ (q : Head). changedBy (renamed now (nameFrom name) t q) t h) t p in
-    judged
-    (when 2 (not (isNow now && isText name))
+    when 2 (not (isNow now && isText name))
     ∷ when 6 (notHeld h || notHeld p)
     ∷ when 7 (isDead h || isDead p)
     ∷ when 8 (notFile h || notDirectory p)
@@ -165,26 +175,36 @@ renameIn now id d name t =
     ∷ when 12 (placeNotHeld t h)
     ∷ when 16 (tooMany after)
     ∷ when 17 (pastEnd after)
-    ∷ [])
-    (done 0 after [])
+    ∷ []
+
+unfoldable pub renameIn : ℕ → ℕ → ℕ → List ℕ → Table → Outcome
+renameIn now id d name t =
+    let h = headOf t id in
+    let p = headOf t d in
+    let after = changedBy (λ (q : Head). changedBy (renamed now (nameFrom name) t q) t h) t p in
+    judged (renameRefusals now id d name t) (done 0 after [])
 
 abbrev pub rename : List ℕ → ℕ → ℕ → ℕ → List ℕ → Outcome
 rename l now id d name = onSound l (renameIn now id d name)
 
-unfoldable pub removeIn : ℕ → ℕ → Table → Outcome
-removeIn now id t =
+abbrev pub removeRefusals : ℕ → ℕ → Table → List Refusal
+removeRefusals now id t =
     let h = headOf t id in
     let after = changedBy (killed now t) t h in
-    judged
-    (when 2 (not (isNow now))
+    when 2 (not (isNow now))
     ∷ when 6 (notHeld h)
     ∷ when 7 (isDead h)
     ∷ when 8 (notDirectory h || eqb id 0)
     ∷ when 10 (anyShown id (t .entries) || liveChild id (t .replicas))
     ∷ when 16 (tooMany after)
     ∷ when 17 (pastEnd after)
-    ∷ [])
-    (done 0 after [])
+    ∷ []
+
+unfoldable pub removeIn : ℕ → ℕ → Table → Outcome
+removeIn now id t =
+    let h = headOf t id in
+    let after = changedBy (killed now t) t h in
+    judged (removeRefusals now id t) (done 0 after [])
 
 abbrev pub remove : List ℕ → ℕ → ℕ → Outcome
 remove l now id = onSound l (removeIn now id)
@@ -193,17 +213,21 @@ remove l now id = onSound l (removeIn now id)
 unfoldable pub spreadTo : ℕ → Table → Head → Table
 spreadTo set t h = settle t (put (withHolders h (join (h .holders) set)) t)
 
+abbrev pub spreadRefusals : ℕ → ℕ → Table → List Refusal
+spreadRefusals id set t =
+    let h = headOf t id in
+    let after = changedBy (spreadTo set t) t h in
+    when 2 (not (isSet (t .nodes) set))
+    ∷ when 6 (notHeld h)
+    ∷ when 16 (tooMany after)
+    ∷ when 17 (pastEnd after)
+    ∷ []
+
 unfoldable pub spreadIn : ℕ → ℕ → Table → Outcome
 spreadIn id set t =
     let h = headOf t id in
     let after = changedBy (spreadTo set t) t h in
-    judged
-    (when 2 (not (isSet (t .nodes) set))
-    ∷ when 6 (notHeld h)
-    ∷ when 16 (tooMany after)
-    ∷ when 17 (pastEnd after)
-    ∷ [])
-    (done 0 after [])
+    judged (spreadRefusals id set t) (done 0 after [])
 
 abbrev pub spread : List ℕ → ℕ → ℕ → Outcome
 spread l id set = onSound l (spreadIn id set)
@@ -215,18 +239,21 @@ unfoldable pub listing : ℕ → List Listed → List Entry
 listing d [] = []
 listing d (x ∷ xs) = cond (eqb (x .directory) d && isShown x) (x .entry ∷ listing d xs) (listing d xs)
 
-unfoldable pub listIn : ℕ → ℕ → Table → Outcome
-listIn id room t =
+abbrev pub listRefusals : ℕ → ℕ → Table → List Refusal
+listRefusals id room t =
     let h = headOf t id in
     let shown = listing id (t .entries) in
-    judged
     -- "the directory's live entries .. (an id not held, or a list of a file, takes nothing)"
-    (when 3 (heldAnd isDirectory h && ltb room (32 * length shown))
+    when 3 (heldAnd isDirectory h && ltb room (32 * length shown))
     ∷ when 6 (notHeld h)
     ∷ when 7 (isDead h)
     ∷ when 8 (notDirectory h)
-    ∷ [])
-    (done (length shown) t (rows entryBytes shown))
+    ∷ []
+
+unfoldable pub listIn : ℕ → ℕ → Table → Outcome
+listIn id room t =
+    let shown = listing id (t .entries) in
+    judged (listRefusals id room t) (done (length shown) t (rows entryBytes shown))
 
 abbrev pub list : List ℕ → ℕ → ℕ → Outcome
 list l id room = onSound l (listIn id room)
@@ -239,17 +266,21 @@ abbrev pub isPending : ℕ → Option Replica → Bool
 isPending node none = false
 isPending node (some r) = has (r .pending) node
 
+abbrev pub pushRefusals : ℕ → ℕ → ℕ → Table → List Refusal
+pushRefusals id node room t =
+    let r = find id (t .replicas) in
+    let written = pushOf? t node r in
+    when 2 (not (isNode (t .nodes) node) || eqb node (t .own))
+    ∷ when 3 (ltb room (length written))
+    ∷ when 6 (notHeld (headOf? r))
+    ∷ when 14 (not (isPending node r))
+    ∷ []
+
 unfoldable pub pushIn : ℕ → ℕ → ℕ → Table → Outcome
 pushIn id node room t =
     let r = find id (t .replicas) in
     let written = pushOf? t node r in
-    judged
-    (when 2 (not (isNode (t .nodes) node) || eqb node (t .own))
-    ∷ when 3 (ltb room (length written))
-    ∷ when 6 (notHeld (headOf? r))
-    ∷ when 14 (not (isPending node r))
-    ∷ [])
-    (done (length written) t written)
+    judged (pushRefusals id node room t) (done (length written) t written)
 
 abbrev pub push : List ℕ → ℕ → ℕ → ℕ → Outcome
 push l id node room = onSound l (pushIn id node room)
@@ -261,20 +292,26 @@ abbrev pub ifPush : Option Push → (Push → Outcome) → Outcome
 ifPush none f = refused 4
 ifPush (some p) f = f p
 
-unfoldable pub takeIn : ℕ → Table → Push → Outcome
-takeIn now t p =
+abbrev pub takeRefusals : ℕ → Table → Push → List Refusal
+takeRefusals now t p =
     let after = received now p t in
-    judged
-    (when 5 (not (eqb (p .addressee) (t .own)))
+    when 5 (not (eqb (p .addressee) (t .own)))
     ∷ when 13 (odd p t)
     ∷ when 16 (tooMany after)
     ∷ when 17 (pastEnd after)
-    ∷ [])
-    (done 16 after (ackBytes (ackFor p)))
+    ∷ []
+
+unfoldable pub takeIn : ℕ → Table → Push → Outcome
+takeIn now t p =
+    let after = received now p t in
+    judged (takeRefusals now t p) (done 16 after (ackBytes (ackFor p)))
+
+abbrev pub receiveRefusals : ℕ → ℕ → List Refusal
+receiveRefusals now room = when 2 (not (isNow now)) ∷ when 3 (ltb room 16) ∷ []
 
 unfoldable pub receiveIn : ℕ → List ℕ → ℕ → Table → Outcome
 receiveIn now message room t =
-    judged (when 2 (not (isNow now)) ∷ when 3 (ltb room 16) ∷ []) (ifPush (readPush (t .nodes) message) (takeIn now t))
+    judged (receiveRefusals now room) (ifPush (readPush (t .nodes) message) (takeIn now t))
 
 abbrev pub receive : List ℕ → ℕ → List ℕ → ℕ → Outcome
 receive l now message room = onSound l (receiveIn now message room)
@@ -294,15 +331,17 @@ abbrev pub isCurrent : ℕ → Option Replica → Bool
 isCurrent version none = false
 isCurrent version (some r) = eqb (r .version) version
 
-unfoldable pub clearIn : Table → Acknowledgement → Outcome
-clearIn t a =
+abbrev pub clearRefusals : Table → Acknowledgement → List Refusal
+clearRefusals t a =
     let r = find (a .id) (t .replicas) in
-    judged
-    (when 5 (not (eqb (a .addressee) (t .own)))
+    when 5 (not (eqb (a .addressee) (t .own)))
     ∷ when 6 (notHeld (headOf? r))
     ∷ when 15 (not (isCurrent (a .version) r && isPending (a .sender) r))
-    ∷ [])
-    (done 0 (withReplicas t (clear (a .id) (a .sender) (t .replicas))) [])
+    ∷ []
+
+unfoldable pub clearIn : Table → Acknowledgement → Outcome
+clearIn t a =
+    judged (clearRefusals t a) (done 0 (withReplicas t (clear (a .id) (a .sender) (t .replicas))) [])
 
 abbrev pub acknowledged : List ℕ → List ℕ → Outcome
 acknowledged l message = onSound l (λ (t : Table). ifAck (readAck (t .nodes) message) (clearIn t))

@@ -2,6 +2,7 @@ pub mod Calls
 pub mod Examples
 pub mod Layouts
 pub mod Messages
+pub mod Order
 pub mod Outcomes
 pub mod Reading
 pub mod ReadingMessages
