@@ -1,6 +1,5 @@
-//! Times each exported call of the library beside the same call of the Rust program, on the same
-//! tables, in one run, and prints both times and their ratio. A time says nothing by itself: only the
-//! ratio of one run does.
+//! Times `pending` of the library beside the same call of the Rust program, on the same tables, in one
+//! run, and prints both times and their ratio. A time says nothing by itself: only the ratio does.
 
 use rumbezalo_model::calls;
 use rumbezalo_model::table::{judge, Table};
@@ -11,7 +10,7 @@ extern "C" {
     fn rumbezalo_pending(table: *const u8, length: usize) -> u64;
 }
 
-/// A fresh table; one half full; and a full one: 64 replicas, 256 entries, 32 in a directory, depth 16.
+/// A fresh table; one half full; and a full one: 64 replicas, 256 entries, files down to depth 16.
 fn tables() -> Vec<(&'static str, Vec<u8>)> {
     let fresh = Table::fresh(1, 8).bytes();
     vec![
@@ -21,7 +20,7 @@ fn tables() -> Vec<(&'static str, Vec<u8>)> {
     ]
 }
 
-/// Makes a chain of sixteen directories and then files until there are so many replicas, and moves
+/// Makes a chain of fifteen directories below the root and then files until there are so many replicas, and moves
 /// files from directory to directory until there are so many entries.
 fn filled(mut table: Vec<u8>, replicas: usize, entries: usize) -> Vec<u8> {
     let made = |table: &mut Vec<u8>, directory: u32, kind: u64, name: String| {

@@ -1,5 +1,5 @@
 -- Byte strings as lists of numbers: a part, a part replaced, and little-endian numbers. What the contracts of
--- `codec::bytes` cite; every layout of document 01 is built from these. Definitions only. Assumes nothing.
+-- `codec` cite; every layout of document 01 is built from these. Definitions only. Assumes nothing.
 use Prim.Native.Nat.{ℕ, zero, suc, _+_, _*_, _/_, _%_, _<_}
 use mathlib.Core.Bool.{Bool, true, false, _&&_}
 use mathlib.Core.List.{List, [], _∷_, _++_}

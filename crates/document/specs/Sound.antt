@@ -15,7 +15,7 @@ use Rattle.slots.specs.declared.replica.Replica.{Replica}
 use Rattle.slots.specs.declared.listed.Listed.{Listed}
 use Rattle.document.specs.Tables.{Table, headOf, entryOf, entriesOf, isKey, fits, tableInRange, tableOf}
 
--- a replica but the root; a live one; a directory
+-- the root; a live replica; a directory
 abbrev pub isRootId : Head → Bool
 isRootId h = eqb (h .id) 0
 

@@ -1,5 +1,5 @@
 // Document 01 as definitions: all of it stands in specs/, in the document's order, and there is no
-// code here. The folder is the one to open beside the document.
+// code here but one function, since a crate has one. The folder is the one to open beside the document.
 ghost use mathlib.Core.Path.{_≡_};
 ghost use Rattle.document.specs.Tables.{tableSize};
 

@@ -1,5 +1,6 @@
 // Numbers of document 01: nodes and node sets, ids, stamps and versions, and the clock. Each is a
-// machine number, so every function here takes any value and says what the document says of it.
+// machine number. Most functions take any value; those on sets of N nodes ask that N is at most 8,
+// `id_of` and `tick` that the result fits.
 pub mod clock;
 pub mod ids;
 pub mod nodes;

@@ -17,7 +17,7 @@ ghost use Rattle.service.specs.Acknowledging.{isAck, Clears};
 fn is_acknowledgement(message: &[u8], n: u8) -> bool
     ensures { λ r. ⌜ r ≡ isAck n (now (message .entry)) ⌝ }
 {
-    if message.len() != 16 {
+    if message.len() != Acknowledgement::SIZE {
         return false;
     }
     if !Acknowledgement::in_range(message, 0, n) {

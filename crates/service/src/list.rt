@@ -57,7 +57,7 @@ fn write_slot(t: &[u8], s: usize, directory: u32, out: &mut [u8], n: usize) -> u
         return n;
     }
     let e = Entry::read(t, 3104 + 40 * s);
-    e.write(out, 32 * n);
+    e.write(out, Entry::SIZE * n);
     n + 1
 }
 
@@ -99,7 +99,7 @@ fn list_held(t: &[u8], id: u32, h: Head, out: &mut [u8]) -> Answer
     }
     let k = find::entries_used(t);
     let n = shown_in(t, k, id);
-    if out.len() < 32 * n {
+    if out.len() < Entry::SIZE * n {
         return Answer {
             number: 3,
             value: 0,

@@ -21,7 +21,7 @@ impl Listed {
         ensures { λ r. ⌜ r ≡ listedAt (now (t .entry)) o ⌝ }
     {
         let entry = Entry::read(t, o);
-        let directory = codec::get_u32(t, o + 32);
+        let directory = codec::get_u32(t, o + Entry::SIZE);
         Self { entry, directory }
     }
 
@@ -32,7 +32,7 @@ impl Listed {
     {
         let entry = self.entry;
         entry.write(t, o);
-        codec::put_u32(t, o + 32, self.directory);
+        codec::put_u32(t, o + Entry::SIZE, self.directory);
         codec::put_u32(t, o + 36, 0);
     }
 
@@ -44,7 +44,7 @@ impl Listed {
         if !Entry::in_range(t, o, n) {
             return false;
         }
-        let directory = codec::get_u32(t, o + 32);
+        let directory = codec::get_u32(t, o + Entry::SIZE);
         if !ids::is_id(n, directory) {
             return false;
         }

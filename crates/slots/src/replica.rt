@@ -23,7 +23,7 @@ impl Replica {
         ensures { λ r. ⌜ r ≡ replicaAt (now (t .entry)) o ⌝ }
     {
         let head = Head::read(t, o);
-        let version = codec::get_u32(t, o + 40);
+        let version = codec::get_u32(t, o + Head::SIZE);
         let pending = codec::get_u8(t, o + 44);
         Self {
             head,
@@ -39,7 +39,7 @@ impl Replica {
     {
         let head = self.head;
         head.write(t, o);
-        codec::put_u32(t, o + 40, self.version);
+        codec::put_u32(t, o + Head::SIZE, self.version);
         codec::put_four(t, o + 44, self.pending, 0, 0, 0);
     }
 
@@ -51,7 +51,7 @@ impl Replica {
         if !Head::in_range(t, o, n) {
             return false;
         }
-        let version = codec::get_u32(t, o + 40);
+        let version = codec::get_u32(t, o + Head::SIZE);
         if !ids::is_version(version) {
             return false;
         }

@@ -17,7 +17,7 @@ fn replicas_in_range(t: &[u8], m: usize, n: u8) -> bool
 {
     let mut i = 0;
     while i < m {
-        if !Replica::in_range(t, 32 + 48 * i, n) {
+        if !Replica::in_range(t, TableHeader::SIZE + Replica::SIZE * i, n) {
             return false;
         }
         i += 1;
@@ -32,7 +32,7 @@ fn entries_in_range(t: &[u8], k: usize, n: u8) -> bool
 {
     let mut i = 0;
     while i < k {
-        if !Listed::in_range(t, 3104 + 40 * i, n) {
+        if !Listed::in_range(t, 3104 + Listed::SIZE * i, n) {
             return false;
         }
         i += 1;
