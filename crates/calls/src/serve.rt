@@ -2,7 +2,7 @@
 use crate::adler::adler;
 use crate::wire;
 use libc::STDOUT_FILENO;
-use service::Answer;
+use answers::Answer;
 ghost use mathlib.Core.Path.{_≡_};
 ghost use Prim.Native.Nat.{_+_, _*_, _≤_, _<_};
 ghost use lib.ListN.{length};

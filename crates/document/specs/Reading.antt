@@ -103,13 +103,13 @@ length-tableBytes t a b =
     )
 
 -- where the three parts stand
-header-at : (t : Table) → chunk (tableBytes t) 0 32 ≡ tableHeaderBytes (headerOf t)
+pub header-at : (t : Table) → chunk (tableBytes t) 0 32 ≡ tableHeaderBytes (headerOf t)
 unfolding tableBytes
 header-at t =
     chunk-front (tableBytes t) (tableHeaderBytes (headerOf t)) (replicaPart t ++ entryPart t) 0 32 refl
     (length-tableHeaderBytes (headerOf t))
 
-replicas-at : (t : Table) →
+pub replicas-at : (t : Table) →
     drop 32 (tableBytes t)
     ≡ rows replicaBytes (t .replicas) ++ (zeros (48 * (64 - length (t .replicas))) ++ entryPart t)
 unfolding tableBytes
@@ -120,7 +120,7 @@ replicas-at t =
     ∙ ap (λ (k : ℕ). rows replicaBytes (t .replicas) ++ (zeros k ++ entryPart t))
     (padding (replicaLayout 0 (omega arith)) 64 (t .replicas))
 
-entries-at : (t : Table) → length (t .replicas) ≤ 64 →
+pub entries-at : (t : Table) → length (t .replicas) ≤ 64 →
     drop 3104 (tableBytes t) ≡ rows listedBytes (t .entries) ++ (zeros (40 * (256 - length (t .entries))) ++ [])
 unfolding tableBytes
 entries-at t h =

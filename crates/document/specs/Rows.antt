@@ -131,7 +131,7 @@ module _ {A : Type 0} (L : Layout A) where
   unfolding rows
   first-row l r o x xs e = e ∙ append-assoc (L .bytes x) (bytesAll xs) r
 
-  other-rows : (l r : List ℕ) (b s : ℕ) (x : A) (xs : List A) → drop (place b s) l ≡ bytesAll (x ∷ xs) ++ r →
+  pub other-rows : (l r : List ℕ) (b s : ℕ) (x : A) (xs : List A) → drop (place b s) l ≡ bytesAll (x ∷ xs) ++ r →
       drop (place b (suc s)) l ≡ bytesAll xs ++ r
   other-rows l r b s x xs e =
       ap (λ (o : ℕ). drop o l) (next-slot b s)
@@ -139,7 +139,7 @@ module _ {A : Type 0} (L : Layout A) where
       (first-row l r (place b s) x xs e) (L .sized x)
 
   -- the first record in its slot
-  row-slot : (l r : List ℕ) (o : ℕ) (x : A) (xs : List A) → drop o l ≡ bytesAll (x ∷ xs) ++ r →
+  pub row-slot : (l r : List ℕ) (o : ℕ) (x : A) (xs : List A) → drop o l ≡ bytesAll (x ∷ xs) ++ r →
       chunk l o (L .width) ≡ L .bytes x
   row-slot l r o x xs e =
       chunk-front l (L .bytes x) (bytesAll xs ++ r) o (L .width) (first-row l r o x xs e) (L .sized x)

@@ -28,8 +28,9 @@ use Rattle.document.specs.Outcomes.{refused, done, judged}
 use Rattle.document.specs.Calls.{ifAck, clear, clearIn, acknowledged}
 use Rattle.table.specs.declared.find.Found.the-variants.{At, Nothing}
 use Rattle.table.specs.Slots.{firstSlot, firstReplica, found-slot, no-slot}
-use Rattle.service.specs.Answers.{is-sound, sound-length}
-use Rattle.service.specs.Writes.{withPending, pending-rewritten}
+use Rattle.answers.specs.Answers.{is-sound, sound-length}
+use Rattle.steps.specs.Standing.{sound-stands}
+use Rattle.steps.specs.Writes.{withPending, pending-rewritten}
 
 -- ---- "4: message malformed"
 
@@ -124,7 +125,7 @@ cleared l id node i s y e =
     let inside = and-true (tableInRange l) _ s in
     let unique = and-true (idsUnique (tableOf l)) _ (and-true (rootFirst (tableOf l)) _ (inside .1) .1) in
     let low : i < replicasUsed l = omega (arith, found-slot (hasId id) (replicaIn l) 0 (replicasUsed l) i e .1) in
-    pending-rewritten l (inside .0) y i (without (replicaIn l i .pending) node) low
+    pending-rewritten (sound-stands l s y) i (without (replicaIn l i .pending) node) low
     ∙ ap (λ (rs : List Replica). tableBytes (withReplicas (tableOf l) rs))
     (sym (rw sub-zero at (clear-found id node (replicaIn l) 0 (replicasUsed l) i e (unique .0))))
 
@@ -181,10 +182,6 @@ module _ {l : List ℕ} {a : Acknowledgement} {i : ℕ} (k : Clears l a i) where
       ∙ cleared l (a .id) (a .sender) i (k .sound) y (k .found)
 
 -- ---- whose table it is, and the message's fields, read in place
-
-pub own-at : (l : List ℕ) → u8At l 2 ≡ tableOf l .own
-unfolding tableOf tableHeaderOf
-own-at l = sym (getD-chunk l 0 32 2 (omega arith))
 
 -- the id is not held
 pub not-found : (l : List ℕ) (id : ℕ) → firstReplica l (replicasUsed l) id ≡ Nothing →

@@ -24,7 +24,7 @@ use Rattle.slots.specs.Listings.{listedBytes}
 use Rattle.document.specs.Tables.{fresh, rows, padded, tableBytes}
 use Rattle.document.specs.Outcomes.{refused, done, judged}
 use Rattle.document.specs.Calls.{start}
-use Rattle.service.specs.Writes.{length-zeros, zeros-add, zeros-rest}
+use Rattle.steps.specs.Writes.{length-zeros, zeros-add, zeros-rest}
 
 -- ---- zeros, written one by one
 

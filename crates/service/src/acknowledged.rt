@@ -1,5 +1,5 @@
 // Acknowledgement received: the sender's pending bit is cleared, if the version is the current one.
-use crate::Answer;
+use answers::Answer;
 use messages::Acknowledgement;
 use numbers::nodes;
 use table::find;
@@ -10,7 +10,7 @@ ghost use Rattle.document.specs.Tables.{tableOf};
 ghost use Rattle.document.specs.Sound.{soundBytes};
 ghost use Rattle.document.specs.Outcomes.{tableAfter};
 ghost use Rattle.document.specs.Calls.{acknowledged, clearIn};
-ghost use Rattle.service.specs.Answers.{answerOf};
+ghost use Rattle.answers.specs.Answers.{answerOf};
 ghost use Rattle.service.specs.Acknowledging.{isAck, Clears};
 
 // Whether the message is an acknowledgement in a cluster of n nodes.

@@ -1,18 +1,9 @@
 // The exported twins of the calls, for C and Rust: each answers number * 4294967296 + value.
-use crate::Answer;
 ghost use mathlib.Core.Path.{_≡_};
-ghost use Prim.Native.Nat.{_+_, _*_};
 ghost use lib.ListN.{length};
 ghost use Rattle.document.specs.Outcomes.{outputAfter, tableAfter};
 ghost use Rattle.document.specs.Calls.{acknowledged, list, pending, start};
-ghost use Rattle.service.specs.Answers.{packed, packedAnswer};
-
-// Number and value in one.
-fn pack(answer: Answer) -> u64
-    ensures { λ r. ⌜ r ≡ packedAnswer answer ⌝ }
-{
-    answer.number as u64 * 4294967296 + answer.value as u64
-}
+ghost use Rattle.answers.specs.Answers.{packed};
 
 #[no_mangle]
 pub extern "C" fn rumbezalo_start(table: &mut [u8], node: u64, n: u64) -> u64
@@ -20,7 +11,7 @@ pub extern "C" fn rumbezalo_start(table: &mut [u8], node: u64, n: u64) -> u64
         ⌜ (r ≡ packed (start (now (table .entry)) node n))
         × (now (table .exit) ≡ tableAfter (start (now (table .entry)) node n) (now (table .entry))) ⌝ }
 {
-    pack(crate::start::start(table, node, n))
+    answers::pack(crate::start::start(table, node, n))
 }
 
 #[no_mangle]
@@ -29,14 +20,14 @@ pub extern "C" fn rumbezalo_list(table: &[u8], id: u64, out: &mut [u8]) -> u64
         ⌜ (r ≡ packed (list (now (table .entry)) id (length (now (out .entry)))))
         × (now (out .exit) ≡ outputAfter (list (now (table .entry)) id (length (now (out .entry)))) (now (out .entry))) ⌝ }
 {
-    pack(crate::list::list(table, id, out))
+    answers::pack(crate::list::list(table, id, out))
 }
 
 #[no_mangle]
 pub extern "C" fn rumbezalo_pending(table: &[u8]) -> u64
     ensures { λ r. ⌜ r ≡ packed (pending (now (table .entry))) ⌝ }
 {
-    pack(crate::pending::pending(table))
+    answers::pack(crate::pending::pending(table))
 }
 
 #[no_mangle]
@@ -46,5 +37,5 @@ pub extern "C" fn rumbezalo_acknowledged(table: &mut [u8], message: &[u8]) -> u6
         × (now (table .exit)
         ≡ tableAfter (acknowledged (now (table .entry)) (now (message .entry))) (now (table .entry))) ⌝ }
 {
-    pack(crate::acknowledged::acknowledged(table, message))
+    answers::pack(crate::acknowledged::acknowledged(table, message))
 }

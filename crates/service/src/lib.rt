@@ -6,9 +6,3 @@ pub mod exports;
 pub mod list;
 pub mod pending;
 pub mod start;
-
-// What comes back: 0 is done, any other number a refusal; and the value.
-pub struct Answer {
-    pub number: u32,
-    pub value: u32,
-}

@@ -1,5 +1,5 @@
 // List: the live entries of a live directory, in slot order, as entry records.
-use crate::Answer;
+use answers::Answer;
 use records::Entry;
 use records::Head;
 use table::find;
@@ -13,7 +13,7 @@ ghost use Rattle.records.specs.Entries.{entryBytes};
 ghost use Rattle.document.specs.Tables.{headOf, rows, tableOf};
 ghost use Rattle.document.specs.Outcomes.{outputAfter};
 ghost use Rattle.document.specs.Calls.{list, listIn};
-ghost use Rattle.service.specs.Answers.{answerOf};
+ghost use Rattle.answers.specs.Answers.{answerOf};
 ghost use Rattle.service.specs.Listing.{isShownIn, shownAt, shownIn};
 
 // Whether entry slot s is a live entry of the directory.

@@ -1,5 +1,5 @@
 // Count what is pending.
-use crate::Answer;
+use answers::Answer;
 use numbers::nodes;
 use table::find;
 ghost use mathlib.Core.Path.{_≡_};
@@ -7,7 +7,7 @@ ghost use Prim.Native.Nat.{_+_, _*_, _≤_, _<_};
 ghost use lib.ListN.{length};
 ghost use Rattle.document.specs.Tables.{slotsFrom, replicaIn};
 ghost use Rattle.document.specs.Calls.{pending, pendingSum};
-ghost use Rattle.service.specs.Answers.{answerOf};
+ghost use Rattle.answers.specs.Answers.{answerOf};
 
 // The sum of the pending bits of m replicas.
 fn pending_bits(t: &[u8], m: usize) -> u32

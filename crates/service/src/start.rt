@@ -1,5 +1,5 @@
 // Start: the bytes of a fresh table.
-use crate::Answer;
+use answers::Answer;
 use numbers::nodes;
 use records::Head;
 use slots::Replica;
@@ -11,7 +11,7 @@ ghost use Rattle.codec.specs.Bytes.{zeros};
 ghost use Rattle.document.specs.Tables.{fresh, tableBytes};
 ghost use Rattle.document.specs.Outcomes.{tableAfter};
 ghost use Rattle.document.specs.Calls.{start};
-ghost use Rattle.service.specs.Answers.{answerOf};
+ghost use Rattle.answers.specs.Answers.{answerOf};
 
 // Writes zeros over all of t.
 fn erase(t: &mut [u8])

@@ -6,8 +6,9 @@ use borrow.Author.Needs.{needs}
 use borrow.Author.Tests.{eq-eqb, ne-eqb}
 use Rattle.document.specs.Tables.{tableOf}
 use Rattle.table.specs.Slots.{firstReplica}
-use Rattle.service.specs.Answers.{sound-length, refuses}
-use Rattle.service.specs.Acknowledging.{clear-5, clear-6, own-at, not-found}
+use Rattle.answers.specs.Answers.{sound-length, refuses}
+use Rattle.service.specs.Acknowledging.{clear-5, clear-6, not-found}
+use Rattle.steps.specs.Standing.{own-at}
 use Rattle.service.proofs.acknowledged.clear.Statement.{statement}
 use Rattle.service.proofs.acknowledged.clear.Tie as tie
 

@@ -11,7 +11,7 @@ use Rattle.codec.specs.Bytes.{splice}
 use Rattle.codec.specs.Lists.{and-stop, and-go, passed, failed}
 use Rattle.numbers.specs.Nodes.{has, without}
 use Rattle.document.specs.Reading.{and-both}
-use Rattle.service.specs.Answers.{refuses, does}
+use Rattle.answers.specs.Answers.{refuses, does}
 use Rattle.service.specs.Acknowledging.{within, slot-refused, slot-cleared, slot-written}
 use Rattle.service.proofs.acknowledged.clear_slot.Statement.{statement}
 use Rattle.service.proofs.acknowledged.clear_slot.Tie as tie

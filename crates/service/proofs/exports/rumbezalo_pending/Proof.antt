@@ -1,7 +1,7 @@
 -- `service::exports::rumbezalo_pending` meets its contract: the call's answer in one number. Assumes nothing.
 use mathlib.Core.Path.{ap, _∙_}
 use borrow.Author.Needs.{needs}
-use Rattle.service.specs.Answers.{packedAnswer}
+use Rattle.answers.specs.Answers.{packedAnswer}
 use Rattle.service.proofs.exports.rumbezalo_pending.Statement.{statement}
 use Rattle.service.proofs.exports.rumbezalo_pending.Tie as tie
 

@@ -1,7 +1,7 @@
 -- `service::exports::rumbezalo_start` meets its contract: the call's answer in one number. Assumes nothing.
 use borrow.Author.Needs.{needs}
 use mathlib.Core.Path.{ap, _∙_}
-use Rattle.service.specs.Answers.{packedAnswer}
+use Rattle.answers.specs.Answers.{packedAnswer}
 use Rattle.service.proofs.exports.rumbezalo_start.Statement.{statement}
 use Rattle.service.proofs.exports.rumbezalo_start.Tie as tie
 

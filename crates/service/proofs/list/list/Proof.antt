@@ -14,10 +14,10 @@ use Rattle.document.specs.Sound.{soundBytes}
 use Rattle.document.specs.Outcomes.{Outcome, outputAfter}
 use Rattle.document.specs.Calls.{list, listIn}
 use Rattle.table.specs.Rules.{held-at, not-held}
-use Rattle.service.specs.Answers.{answerOf, not-sound, is-sound, sound-length}
-use Rattle.service.specs.Held.{not-an-id, held-of}
+use Rattle.answers.specs.Answers.{answerOf, not-sound, is-sound, sound-length}
+use Rattle.answers.specs.Held.{not-an-id, held-of}
 use Rattle.service.specs.Listing.{list-not-held}
-use Rattle.service.specs.Outputs.{refused-out}
+use Rattle.answers.specs.Outputs.{refused-out}
 use Rattle.service.proofs.list.list.Statement.{statement}
 use Rattle.service.proofs.list.list.Tie as tie
 

@@ -13,7 +13,7 @@ use Rattle.records.specs.Entries.{entryBytes}
 use Rattle.document.specs.Tables.{rows, tableOf}
 use Rattle.document.specs.Calls.{listing}
 use Rattle.service.specs.Listing.{shown-of, list-small, list-dead-file, list-file, list-dead, list-done}
-use Rattle.service.specs.Outputs.{refused-out, done-out}
+use Rattle.answers.specs.Outputs.{refused-out, done-out}
 use Rattle.service.proofs.list.list_held.Statement.{statement}
 use Rattle.service.proofs.list.list_held.Tie as tie
 

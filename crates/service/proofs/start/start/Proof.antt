@@ -6,7 +6,7 @@ use borrow.Author.Needs.{needs}
 use borrow.Author.Tests.{eq-eqb, ne-eqb}
 use Rattle.codec.specs.Lists.{and-stop, and-go, passed, failed}
 use Rattle.document.specs.Reading.{and-both}
-use Rattle.service.specs.Answers.{refuses, does}
+use Rattle.answers.specs.Answers.{refuses, does}
 use Rattle.service.specs.Starting.{size-most, node-most, start-1, start-2, start-done}
 use Rattle.service.proofs.start.start.Statement.{statement}
 use Rattle.service.proofs.start.start.Tie as tie

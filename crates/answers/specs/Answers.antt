@@ -13,7 +13,7 @@ use Rattle.document.specs.Sound.{soundBytes, readSound, rules}
 use Rattle.document.specs.Outcomes.{Outcome, refused, done, numberOf, valueOf, tableAfter}
 use Rattle.document.specs.Calls.{onSound, ifSound}
 use Rattle.table.specs.Ranges.{range-length}
-use Rattle.service.specs.declared.Answer.{Answer}
+use Rattle.answers.specs.declared.Answer.{Answer}
 
 abbrev pub answerOf : Outcome → Answer
 answerOf o = record { number = numberOf o; value = valueOf o }

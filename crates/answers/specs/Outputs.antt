@@ -6,7 +6,7 @@ use Prim.Native.Nat.{ℕ}
 use Rattle.codec.specs.Bytes.{splice}
 use Rattle.document.specs.Tables.{Table}
 use Rattle.document.specs.Outcomes.{Outcome, refused, done, outputAfter}
-use Rattle.service.specs.Answers.{answerOf}
+use Rattle.answers.specs.Answers.{answerOf}
 
 pub refused-out : (out : List ℕ) (k : ℕ) {o : Outcome} → o ≡ refused k →
     (record { number = k; value = 0 } ≡ answerOf o) × (out ≡ outputAfter o out)

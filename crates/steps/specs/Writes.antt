@@ -13,20 +13,19 @@ use Rattle.codec.specs.Bytes.{chunk, splice, bytesOf, zeros, Bytes}
 use Rattle.codec.specs.Laws.{length-chunk, length-splice, bytes-chunk}
 use Rattle.codec.specs.Lists.{and-true}
 use Rattle.records.specs.declared.head.Head.{Head}
-use Rattle.records.specs.Heads.{headBytes}
+use Rattle.records.specs.Heads.{headBytes, length-headBytes}
 use Rattle.slots.specs.declared.replica.Replica.{Replica}
 use Rattle.slots.specs.declared.listed.Listed.{Listed}
 use Rattle.slots.specs.TableHeaders.{tableHeaderBytes, tableHeaderInRange, length-tableHeaderBytes}
 use Rattle.slots.specs.Replicas.{replicaBytes, replicaInRange, replica-back, length-replicaBytes}
 use Rattle.slots.specs.Listings.{listedBytes}
 use Rattle.document.specs.Layouts.{replicaLayout, listedLayout}
-use Rattle.document.specs.Reading.{bytes-of-table}
 use Rattle.document.specs.Steps.{renewed, putHead}
 use Rattle.document.specs.Tables.{Table, hasId, slotsFrom, withReplicas, withEntries, headerOf, rows, padded, tableBytes, replicaSlot, entrySlot, replicasUsed, entriesUsed, replicaIn, entryIn, everySlot, tableOf, tableInRange}
 use Rattle.document.specs.Rows.{Layout, length-rows, length-padded, length-slots, used-le}
 use Rattle.table.specs.declared.find.Found.the-variants.{At}
 use Rattle.table.specs.Slots.{firstSlot, found-slot}
-use Rattle.table.specs.Ranges.{range-length}
+use Rattle.steps.specs.Standing.{Stands, replicas-held, entries-held, few-replicas, replica-bytes}
 
 -- ---- zeros: how many, in two parts, and without the first n
 
@@ -225,25 +224,6 @@ listed-rewritten t i x few h =
 
 -- ---- one slot of bytes that are a table
 
--- what every slot passes, slot i does
-slot-passes : (f : ℕ → Bool) (s n i : ℕ) → everySlot f s n ≡ true → i < n → f (s + i) ≡ true
-unfolding everySlot
-slot-passes f s zero i e h = absurd (omega arith)
-slot-passes f s (suc n) zero e h = rw add-zero (and-true (f s) _ e .0)
-slot-passes f s (suc n) (suc i) e h =
-    ap f {x = s + suc i} {y = suc s + i} (omega arith) ∙ slot-passes f (suc s) n i (and-true (f s) _ e .1) (omega arith)
-
--- every replica slot of a table in range is in range
-slots-in-range : (l : List ℕ) → tableInRange l ≡ true →
-    everySlot (λ (s : ℕ). replicaInRange (tableOf l .nodes) (chunk l (replicaSlot s) 48)) 0 (replicasUsed l) ≡ true
-unfolding tableInRange
-slots-in-range l e =
-    let size = and-true (eqb (length l) 13344) _ e in
-    let header = and-true (tableHeaderInRange (chunk l 0 32)) _ (size .1) in
-    and-true
-    (everySlot (λ (s : ℕ). replicaInRange (tableOf l .nodes) (chunk l (replicaSlot s) 48)) 0 (replicasUsed l)) _
-    (header .1) .0
-
 -- the pending set is one byte of a replica's bytes
 abbrev pub withPending : Replica → ℕ → Replica
 withPending r p = record { head = r .head; version = r .version; pending = p }
@@ -253,50 +233,50 @@ pending-byte : (r : Replica) (p : ℕ) →
 unfolding replicaBytes headBytes bytesOf splice
 pending-byte r p = refl
 
-module _ (l : List ℕ) (inside : tableInRange l ≡ true) (bytes : Bytes l) where
-  -- how many replicas there are
-  replicas-held : length (tableOf l .replicas) ≡ replicasUsed l
-  unfolding tableOf
-  replicas-held = length-slots (replicaIn l) 0 (replicasUsed l)
+head-part : (r : Replica) (h : Head) → splice (replicaBytes r) 0 (headBytes h) ≡ replicaBytes (renewed h r)
+unfolding replicaBytes headBytes bytesOf splice
+head-part r h = refl
 
+module _ {l : List ℕ} (k : Stands l) where
   -- replica slot i is rewritten
   pub slot-rewritten : (i : ℕ) (r : Replica) → i < replicasUsed l →
       splice l (replicaSlot i) (replicaBytes r) ≡ tableBytes (withReplicas (tableOf l) (set (tableOf l .replicas) i r))
   slot-rewritten i r h =
-      ap (λ (k : List ℕ). splice k (replicaSlot i) (replicaBytes r)) (sym (bytes-of-table l inside bytes))
-      ∙ replica-rewritten (tableOf l) i r (omega (arith, replicas-held))
+      ap (λ (z : List ℕ). splice z (replicaSlot i) (replicaBytes r)) (k .bytes)
+      ∙ replica-rewritten (tableOf l) i r (omega (arith, replicas-held l))
 
   -- entry slot i is rewritten
   pub entry-rewritten : (i : ℕ) (x : Listed) → i < entriesUsed l →
       splice l (entrySlot i) (listedBytes x) ≡ tableBytes (withEntries (tableOf l) (set (tableOf l .entries) i x))
-  unfolding tableOf
   entry-rewritten i x h =
-      let few : replicasUsed l ≤ 64 = used-le (replicaLayout 0 (omega arith)) l 32 64 in
-      let held = length-slots (entryIn l) 0 (entriesUsed l) in
-      ap (λ (k : List ℕ). splice k (entrySlot i) (listedBytes x)) (sym (bytes-of-table l inside bytes))
-      ∙ listed-rewritten (tableOf l) i x (omega (arith, replicas-held)) (omega (arith, held))
+      ap (λ (z : List ℕ). splice z (entrySlot i) (listedBytes x)) (k .bytes)
+      ∙ listed-rewritten (tableOf l) i x (omega (arith, replicas-held l, few-replicas l)) (omega (arith, entries-held l))
 
-  -- the bytes of the replica in slot i are those that stand there
-  pub slot-bytes : (i : ℕ) → i < replicasUsed l → replicaBytes (replicaIn l i) ≡ chunk l (replicaSlot i) 48
-  slot-bytes i h =
-      let few : replicasUsed l ≤ 64 = used-le (replicaLayout 0 (omega arith)) l 32 64 in
-      let fits : replicaSlot i + 48 ≤ length l = omega (arith, range-length l inside) in
-      replica-back (tableOf l .nodes) (chunk l (replicaSlot i) 48) (length-chunk l (replicaSlot i) 48 fits)
-      (bytes-chunk l (replicaSlot i) 48 bytes)
-      (rw zero-add at
-      (slot-passes (λ (s : ℕ). replicaInRange (tableOf l .nodes) (chunk l (replicaSlot s) 48)) 0 (replicasUsed l) i
-      (slots-in-range l inside) h))
+  -- a part of replica slot i is rewritten
+  part-rewritten : (i o : ℕ) (vs : List ℕ) (r : Replica) → i < replicasUsed l → o + length vs ≤ 48 →
+      splice (replicaBytes (replicaIn l i)) o vs ≡ replicaBytes r →
+      splice l (replicaSlot i + o) vs ≡ tableBytes (withReplicas (tableOf l) (set (tableOf l .replicas) i r))
+  part-rewritten i o vs r h f e =
+      splice-within l (replicaSlot i) 48 o vs f (omega (arith, k .size, few-replicas l))
+      ∙ ap (λ (c : List ℕ). splice l (replicaSlot i) (splice c o vs)) (replica-bytes k i h)
+      ∙ ap (splice l (replicaSlot i)) e
+      ∙ slot-rewritten i r h
 
   -- its pending set is rewritten
   pub pending-rewritten : (i p : ℕ) → i < replicasUsed l →
       splice l (replicaSlot i + 44) (p ∷ [])
       ≡ tableBytes (withReplicas (tableOf l) (set (tableOf l .replicas) i (withPending (replicaIn l i) p)))
   pending-rewritten i p h =
-      let few : replicasUsed l ≤ 64 = used-le (replicaLayout 0 (omega arith)) l 32 64 in
-      splice-within l (replicaSlot i) 48 44 (p ∷ []) (omega arith) (omega (arith, range-length l inside))
-      ∙ ap (λ (c : List ℕ). splice l (replicaSlot i) (splice c 44 (p ∷ []))) (sym (slot-bytes i h))
-      ∙ ap (splice l (replicaSlot i)) (pending-byte (replicaIn l i) p)
-      ∙ slot-rewritten i (withPending (replicaIn l i) p) h
+      part-rewritten i 44 (p ∷ []) (withPending (replicaIn l i) p) h (omega arith) (pending-byte (replicaIn l i) p)
+
+  -- its head is rewritten
+  pub head-rewritten : (i : ℕ) (g : Head) → i < replicasUsed l →
+      splice l (replicaSlot i) (headBytes g)
+      ≡ tableBytes (withReplicas (tableOf l) (set (tableOf l .replicas) i (renewed g (replicaIn l i))))
+  head-rewritten i g h =
+      ap (λ (o : ℕ). splice l o (headBytes g)) (sym (add-zero (replicaSlot i)))
+      ∙ part-rewritten i 0 (headBytes g) (renewed g (replicaIn l i)) h (omega (arith, length-headBytes g))
+      (head-part (replicaIn l i) g)
 
 -- ---- a head put where its id was found
 

@@ -1,0 +1,11 @@
+// Soundness is kept, as laws: every call but receive leaves a sound table sound. All of it stands in specs/, and there is
+// no code here but one function, since a crate has one.
+ghost use mathlib.Core.Path.{_≡_};
+ghost use Rattle.document.specs.Tables.{entrySlots};
+
+// The entry slots of a table.
+pub fn entry_slots() -> usize
+    ensures { λ r. ⌜ r ≡ entrySlots ⌝ }
+{
+    256
+}
