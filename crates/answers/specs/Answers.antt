@@ -52,3 +52,8 @@ pub does : {o : Outcome} {v : ℕ} {t : Table} {w : List ℕ} (l : List ℕ) {l'
     l' ≡ tableBytes t →
     (record { number = 0; value = v } ≡ answerOf o) × (l' ≡ tableAfter o l)
 does l e b = (ap answerOf (sym e), b ∙ ap (λ (o : Outcome). tableAfter o l) (sym e))
+
+-- the same of another outcome that is equal
+pub instead : {o q : Outcome} {r : Answer} (l : List ℕ) {l' : List ℕ} → o ≡ q → (r ≡ answerOf o) × (l' ≡ tableAfter o l) →
+    (r ≡ answerOf q) × (l' ≡ tableAfter q l)
+instead l e p = (p .0 ∙ ap answerOf e, p .1 ∙ ap (λ (o : Outcome). tableAfter o l) e)

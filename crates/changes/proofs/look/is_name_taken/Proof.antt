@@ -1,0 +1,55 @@
+-- `changes::look::is_name_taken` meets its contract. The loop's invariant: one passes exactly if one from i on does. Assumes nothing.
+use native.Mathlib.Omega.{arith}
+use mathlib.Core.Path.{_≡_, refl, ap, sym, subst, _∙_}
+use Prim.Native.Nat.{ℕ, _+_, _*_, _-_, _≤_, _<_}
+use Rattle.codec.specs.Lists.{or-stop, or-go}
+use Rattle.document.specs.Tables.{tableOf, entryIn, replicaIn}
+use Rattle.document.specs.Calls.{nameTaken, anyShown, liveChild}
+use Rattle.steps.specs.Standing.{few-entries, few-replicas}
+use Rattle.changes.specs.Looking.{anySlot, any-step, any-none, isTakenBy, isShownIn, isChildOf, taken-any}
+use borrow.Author.Needs.{needs}
+use Rattle.changes.proofs.look.is_name_taken.Statement.{statement}
+use Rattle.changes.proofs.look.is_name_taken.Tie as tie
+
+abbrev Inv-loop : tie.InvT-loop
+Inv-loop t k directory name i₀ i =
+    (i ≤ k) × (nameTaken directory name (tableOf t .entries) ≡ anySlot (λ (s : ℕ). isTakenBy directory name (entryIn t s)) i (k - i))
+
+abbrev μ-loop : tie.MeasureT-loop
+μ-loop t k directory name i₀ i =
+    k - i
+
+loop-holds : tie.Need-loop-holds Inv-loop μ-loop
+loop-holds c = (search needs, taken-any (c .before .args .t .now) (c .before .args .k) (c .before .args .directory) (c .before .args .name) (c .before .pre .1))
+
+takes-name-requires : tie.Need-takes-name-requires Inv-loop μ-loop
+takes-name-requires c κs = (c .before .before .before .pre .0, omega (arith, c .loop-test .taken, c .before .before .before .pre .1, few-entries (c .before .before .before .args .t .now)))
+
+returns : tie.Need-returns Inv-loop μ-loop
+returns c = or-stop _ _ (sym (c .before .takes-name .ensures) ∙ c .if1 .taken) ∙ sym (c .before .before .before .loop .inv .1 ∙ any-step _ _ _ (c .before .before .loop-test .taken))
+
+add-i : tie.Need-add-i Inv-loop μ-loop
+add-i c = search needs
+
+loop-less : tie.Need-loop-less Inv-loop μ-loop
+loop-less c = search needs
+
+loop-again : tie.Need-loop-again Inv-loop μ-loop
+loop-again c = (omega arith, c .before .before .before .loop .inv .1 ∙ any-step _ _ _ (c .before .before .loop-test .taken) ∙ sym (or-go _ _ (sym (c .before .takes-name .ensures) ∙ c .if1 .left) refl))
+
+returns-2 : tie.Need-returns-2 Inv-loop μ-loop
+returns-2 c = sym (c .before .loop .inv .1 ∙ any-none _ _ _ (c .loop-test .left))
+
+pub is-name-taken-spec : {M : Type 1} → statement M
+is-name-taken-spec =
+    tie.close
+    (tie.spec
+    Inv-loop
+    μ-loop
+    loop-holds
+    takes-name-requires
+    returns
+    add-i
+    loop-less
+    loop-again
+    returns-2)
