@@ -4,6 +4,8 @@
 //! Beside them stands which refusals a call can give, and a tally of those that were given.
 
 use crate::calls::{Answer, Service};
+use crate::steps::Bound;
+use crate::table::Table;
 use std::fmt;
 
 /// The names of the calls, by their codes 1 to 11.
@@ -197,6 +199,44 @@ impl Call {
             Call::Pending => service.pending(table),
         }
     }
+
+    /// The table that the call would leave if there were no bounds, if it can meet one and isn't
+    /// refused for something else.
+    fn unbounded(&self, service: &Service, table: &[u8]) -> Option<Table> {
+        let outcome = match self {
+            Call::Create {
+                now,
+                directory,
+                kind,
+                name,
+                set,
+            } => service.created(table, *now, *directory, *kind, name, *set),
+            Call::Unlink { now, id } => service.unlinked(table, *now, *id),
+            Call::Rename {
+                now,
+                id,
+                directory,
+                name,
+            } => service.renamed(table, *now, *id, *directory, name),
+            Call::Remove { now, id } => service.removed(table, *now, *id),
+            Call::Spread { id, set } => service.widened(table, *id, *set),
+            Call::Receive { now, message, room } => service
+                .received(table, *now, message, *room)
+                .map(|(after, _)| (after, 0)),
+            _ => return None,
+        };
+        outcome.ok().map(|(after, _)| after)
+    }
+
+    /// The bound that the call is refused for, if it is one alone.
+    pub fn bound(&self, service: &Service, table: &[u8]) -> Option<Bound> {
+        let after = self.unbounded(service, table)?;
+        let mut passed = Bound::ALL
+            .into_iter()
+            .filter(|bound| bound.is_passed(&after));
+        let first = passed.next();
+        first.filter(|_| passed.next().is_none())
+    }
 }
 
 /// The name of the call with this code.
@@ -227,6 +267,39 @@ pub const REFUSALS: [&[u32]; 11] = [
     &[1, 4, 5, 6, 15],
     &[1],
 ];
+
+/// The bounds that a call can meet, row by row, codes 1 to 11: create makes one of everything, rename
+/// an entry, receive all but ids. A new stamp is a clock; a changed head or entry is a version.
+pub const BOUNDS: [&[Bound]; 11] = [
+    &[],
+    &Bound::ALL,
+    &[Bound::Clock, Bound::Version],
+    &[
+        Bound::Entries,
+        Bound::Directory,
+        Bound::Clock,
+        Bound::Version,
+    ],
+    &[Bound::Clock, Bound::Version],
+    &[Bound::Version],
+    &[],
+    &[],
+    &[
+        Bound::Replicas,
+        Bound::Entries,
+        Bound::Directory,
+        Bound::Clock,
+        Bound::Version,
+    ],
+    &[],
+    &[],
+];
+
+/// Every call and bound that it can meet.
+pub fn bounds() -> impl Iterator<Item = (u8, Bound)> {
+    let rows = (1..=11u8).zip(BOUNDS);
+    rows.flat_map(|(code, row)| row.iter().map(move |&bound| (code, bound)))
+}
 
 /// Says whether a call with this code can answer this number. 0 is done.
 pub fn is_reachable(code: u8, number: u32) -> bool {

@@ -10,7 +10,7 @@ use crate::records::{
     has, id, is_node, is_set, single, without, Acknowledgement, Entry, Head, Kind, Name, Place,
     Record, DEEPEST, LAST_CLOCK, MOST_NODES, ROOT,
 };
-use crate::steps::{past_end, settle, too_many, AtOdds, Work};
+use crate::steps::{settle, AtOdds, Bound, Work};
 use crate::table::{judge, Table};
 use crate::variant::Variant;
 
@@ -31,7 +31,8 @@ pub struct Service {
 /// The number of a refusal, 1 to 17.
 type Refusal = u32;
 
-/// What a call that changes the table leaves: the table and the value.
+/// What a call that changes the table leaves: the table and the value. Bounds are judged last, by
+/// `within`.
 type Changed = Result<(Table, u32), Refusal>;
 
 /// What a call that writes to an output buffer leaves there, and the value.
@@ -55,13 +56,13 @@ impl Service {
         set: u64,
     ) -> Answer {
         let outcome = self.created(table, now, directory, kind, name, set);
-        keep(table, outcome)
+        keep(table, within(outcome))
     }
 
     /// Unlink a file.
     pub fn unlink(&self, table: &mut [u8], now: u64, id: u64) -> Answer {
         let outcome = self.unlinked(table, now, id);
-        keep(table, outcome)
+        keep(table, within(outcome))
     }
 
     /// Rename a regular file.
@@ -74,19 +75,19 @@ impl Service {
         name: &[u8],
     ) -> Answer {
         let outcome = self.renamed(table, now, id, directory, name);
-        keep(table, outcome)
+        keep(table, within(outcome))
     }
 
     /// Remove a directory.
     pub fn remove(&self, table: &mut [u8], now: u64, id: u64) -> Answer {
         let outcome = self.removed(table, now, id);
-        keep(table, outcome)
+        keep(table, within(outcome))
     }
 
     /// Spread a replica to more nodes.
     pub fn spread(&self, table: &mut [u8], id: u64, set: u64) -> Answer {
         let outcome = self.widened(table, id, set);
-        keep(table, outcome)
+        keep(table, within(outcome))
     }
 
     /// List a directory.
@@ -104,7 +105,7 @@ impl Service {
     /// Receive a push.
     pub fn receive(&self, table: &mut [u8], now: u64, message: &[u8], out: &mut [u8]) -> Answer {
         let outcome = self.received(table, now, message, out.len());
-        let (changed, written) = match outcome {
+        let (changed, written) = match within(outcome) {
             Ok((after, answer)) => (Ok((after, 0)), Ok((answer, Acknowledgement::SIZE as u32))),
             Err(number) => (Err(number), Err(number)),
         };
@@ -115,7 +116,7 @@ impl Service {
     /// Receive an acknowledgement.
     pub fn acknowledged(&self, table: &mut [u8], message: &[u8]) -> Answer {
         let outcome = self.told(table, message);
-        keep(table, outcome)
+        keep(table, within(outcome))
     }
 
     /// Count what is pending.
@@ -126,7 +127,7 @@ impl Service {
 
     /// "Create: next id, new stamp, holders are the given set with the own node. The set may be
     /// empty."
-    fn created(
+    pub(crate) fn created(
         &self,
         table: &[u8],
         now: u64,
@@ -161,12 +162,12 @@ impl Service {
             },
         });
         work.set_entries(slot, None).map_err(at_odds)?;
-        let after = self.finish(&before, work.table)?;
+        let after = settle(&before, work.table, self.variant);
         Ok((after, new))
     }
 
     /// "Unlink, remove: new stamp, dead."
-    fn unlinked(&self, table: &[u8], now: u64, id: u64) -> Changed {
+    pub(crate) fn unlinked(&self, table: &[u8], now: u64, id: u64) -> Changed {
         let before = lent(table)?;
         refuse_if(now > LAST_CLOCK, 2)?;
         let slot = held(&before, id)?;
@@ -177,12 +178,19 @@ impl Service {
         let mut work = Work::on(&before, now, self.variant);
         let dead = work.change(slot, |head| head.live = false);
         dead.map_err(at_odds)?;
-        let after = self.finish(&before, work.table)?;
+        let after = settle(&before, work.table, self.variant);
         Ok((after, 0))
     }
 
     /// "Rename: new stamp, new place."
-    fn renamed(&self, table: &[u8], now: u64, id: u64, directory: u64, name: &[u8]) -> Changed {
+    pub(crate) fn renamed(
+        &self,
+        table: &[u8],
+        now: u64,
+        id: u64,
+        directory: u64,
+        name: &[u8],
+    ) -> Changed {
         let before = lent(table)?;
         let name = Name::from_bytes(name).ok_or(2u32)?;
         refuse_if(now > LAST_CLOCK, 2)?;
@@ -208,12 +216,12 @@ impl Service {
         if self.variant == Variant::OwnPlaceStruck && place == file.place {
             strike(&mut work.table, file.id, place);
         }
-        let after = self.finish(&before, work.table)?;
+        let after = settle(&before, work.table, self.variant);
         Ok((after, 0))
     }
 
     /// "Unlink, remove: new stamp, dead."
-    fn removed(&self, table: &[u8], now: u64, id: u64) -> Changed {
+    pub(crate) fn removed(&self, table: &[u8], now: u64, id: u64) -> Changed {
         let before = lent(table)?;
         refuse_if(now > LAST_CLOCK, 2)?;
         let slot = held(&before, id)?;
@@ -224,7 +232,7 @@ impl Service {
         let mut work = Work::on(&before, now, self.variant);
         let dead = work.change(slot, |head| head.live = false);
         dead.map_err(at_odds)?;
-        let after = self.finish(&before, work.table)?;
+        let after = settle(&before, work.table, self.variant);
         Ok((after, 0))
     }
 
@@ -238,18 +246,18 @@ impl Service {
 
     /// "Spread: the set is joined to the holders; nothing new means done with no change. Root may
     /// be spread."
-    fn widened(&self, table: &[u8], id: u64, set: u64) -> Changed {
+    pub(crate) fn widened(&self, table: &[u8], id: u64, set: u64) -> Changed {
         let before = lent(table)?;
         refuse_if(!is_set(set, before.n), 2)?;
         let slot = held(&before, id)?;
         let mut after = before.clone();
         after.replicas[slot].head.holders |= set as u8;
-        let after = self.finish(&before, after)?;
+        let after = settle(&before, after, self.variant);
         Ok((after, 0))
     }
 
     /// "Receive": the steps (a) to (g), with the table and the bytes of the acknowledgement.
-    fn received(
+    pub(crate) fn received(
         &self,
         table: &[u8],
         now: u64,
@@ -263,7 +271,7 @@ impl Service {
         refuse_if(push.to != before.own, 5)?;
         let mut work = Work::on(&before, now, self.variant);
         let acknowledgement = work.receive(&push).map_err(|_| 13u32)?;
-        let after = self.finish(&before, work.table)?;
+        let after = settle(&before, work.table, self.variant);
         Ok((after, acknowledgement.write()))
     }
 
@@ -281,16 +289,8 @@ impl Service {
         refuse_if(!current || !has(replica.pending, told.from), 15)?;
         let mut after = before.clone();
         after.replicas[slot].pending = without(replica.pending, told.from);
-        let after = self.finish(&before, after)?;
+        let after = settle(&before, after, self.variant);
         Ok((after, 0))
-    }
-
-    /// The outcome with its versions, or the refusal 16 or 17 that its limits ask for.
-    fn finish(&self, before: &Table, after: Table) -> Result<Table, Refusal> {
-        let after = settle(before, after, self.variant);
-        refuse_if(too_many(&after), 16)?;
-        refuse_if(past_end(&after), 17)?;
-        Ok(after)
     }
 }
 
@@ -380,6 +380,17 @@ fn refuse_if(condition: bool, number: Refusal) -> Result<(), Refusal> {
 /// above every stamp seen.
 fn at_odds(_: AtOdds) -> Refusal {
     13
+}
+
+/// 16 and 17: "the outcome needs more than [..]", "the outcome needs [..] past its end". Judged on the
+/// outcome, which was worked out as if there were no bounds.
+fn within<T>(outcome: Result<(Table, T), Refusal>) -> Result<(Table, T), Refusal> {
+    let (after, rest) = outcome?;
+    let passed = Bound::ALL.iter().find(|bound| bound.is_passed(&after));
+    match passed {
+        Some(bound) => Err(bound.number()),
+        None => Ok((after, rest)),
+    }
 }
 
 fn answer(outcome: Result<u32, Refusal>) -> Answer {

@@ -270,6 +270,14 @@ fn pending_bits(table: &Table) -> u32 {
 // ---- what was covered
 
 impl Covered {
+    /// Says whether so many quiets were checked, at least: demand 3 speaks of nothing else, so a run
+    /// with few of them says little.
+    pub fn reached(&self, quiets: u64) -> Result<(), String> {
+        ensure(self.quiets >= quiets, || {
+            format!("{} quiets were checked, fewer than {quiets}", self.quiets)
+        })
+    }
+
     fn live_again(&mut self, made: &[&Head]) {
         self.made_live += made.len() as u64;
         self.most_made_live = self.most_made_live.max(made.len());

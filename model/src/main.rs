@@ -1,6 +1,6 @@
 //! The program `model`: one subcommand for each thing that the model is asked to do.
 
-use rumbezalo_model::asked::{call_name, in_words};
+use rumbezalo_model::asked::{bounds, call_name, in_words};
 use rumbezalo_model::requests::{self, Stream, LOAD, MALFORMED, POKE, SHOW};
 use rumbezalo_model::variant::Variant;
 use rumbezalo_model::{answer, cluster, hostile};
@@ -16,6 +16,7 @@ commands:
             --schedules N   how many schedules (2000)
             --seed S        their seed (1)
             --first K       the first of them (0)
+            --quiets N      fail unless at least so many quiets were checked (0)
   hostile   try every call on hostile tables, messages and numbers
             --tables N      how many tables (16000)
             --messages N    how many messages (80000)
@@ -28,7 +29,8 @@ commands:
             --answers FILE  where to write the answers
             --malformed W   end with a request that is malformed: code, slot, padding, output,
                             payload, load, poke, header or cut
-            --require       fail unless every answer that these calls can give is there
+            --require       fail unless every answer that these calls can give is there, and
+                            every bound that 16 and 17 stand for
   answer    answer the requests on standard input, as the program `calls` does
             --codes A,B,..  know only calls with these codes (all)
   help      print this text";
@@ -124,7 +126,8 @@ impl Options {
 // ---- commands
 
 fn run_cluster(arguments: impl Iterator<Item = String>) -> Result<(), Trouble> {
-    let given = Options::read(arguments, &["--schedules", "--seed", "--first"], &[])?;
+    let names = ["--schedules", "--seed", "--first", "--quiets"];
+    let given = Options::read(arguments, &names, &[])?;
     let options = cluster::Options {
         schedules: given.number("--schedules", 2_000)?,
         seed: given.number("--seed", 1)?,
@@ -135,7 +138,8 @@ fn run_cluster(arguments: impl Iterator<Item = String>) -> Result<(), Trouble> {
     let covered = cluster::run(&options).map_err(Trouble::Failed)?;
     println!("cluster, seed {}: {covered}", options.seed);
     println!("time: {:.1} s", began.elapsed().as_secs_f64());
-    Ok(())
+    let reached = covered.reached(given.number("--quiets", 0)?);
+    reached.map_err(|words| Trouble::Failed(format!("seed {}: {words}", options.seed)))
 }
 
 fn run_hostile(arguments: impl Iterator<Item = String>) -> Result<(), Trouble> {
@@ -185,13 +189,27 @@ fn run_requests(arguments: impl Iterator<Item = String>) -> Result<(), Trouble> 
     write_file(out, &stream.requests)?;
     write_file(answers, &stream.answers)?;
     print_stream(&stream);
-    let missing = stream.tally().missing(&options.codes);
-    if given.given.contains_key("--require") && !missing.is_empty() {
-        let (words, seed) = (in_words(&missing), options.seed);
-        let words = format!("seed {seed}: can be reached and is not in the stream: {words}");
-        return Err(Trouble::Failed(words));
+    if given.given.contains_key("--require") {
+        let complete = complete(&stream, &options.codes);
+        return complete
+            .map_err(|words| Trouble::Failed(format!("seed {}: {words}", options.seed)));
     }
     Ok(())
+}
+
+/// Says whether every answer and bound that these calls can meet is in the stream.
+fn complete(stream: &Stream, codes: &[u8]) -> Result<(), String> {
+    let mut missing = vec![in_words(&stream.tally().missing(codes))];
+    let bounds = stream.missing_bounds(codes).into_iter();
+    missing.extend(bounds.map(|(code, bound)| format!("{} {bound:?}", call_name(code))));
+    missing.retain(|words| !words.is_empty());
+    match missing.is_empty() {
+        true => Ok(()),
+        false => Err(format!(
+            "can be reached and is not in the stream: {}",
+            missing.join(", ")
+        )),
+    }
 }
 
 fn write_file(path: &str, bytes: &[u8]) -> Result<(), Trouble> {
@@ -217,6 +235,13 @@ fn print_stream(stream: &Stream) {
         eprintln!("  {code:>2} {name:13}{count:>7}");
     }
     eprintln!("answers by number\n{}", stream.tally());
+    let counts = bounds().map(|(code, bound)| (code, bound, stream.refused_for(code, bound)));
+    let met = counts.filter(|&(_, _, count)| count > 0);
+    let words = met.map(|(code, bound, count)| format!("{} {bound:?} {count}", call_name(code)));
+    eprintln!(
+        "refused for one bound alone: {}",
+        words.collect::<Vec<_>>().join(", ")
+    );
 }
 
 fn run_answer(arguments: impl Iterator<Item = String>) -> Result<(), Trouble> {

@@ -5,13 +5,14 @@
 //! made by hand. Tables come about by the calls themselves; what those can't do, or may not, since
 //! only some calls are asked for, is poked in, a few bytes at a time.
 
-use crate::aims::{aim, some_call};
-use crate::asked::{reachable, Call, Tally};
+use crate::aims::{aim, some_call, Aimed};
+use crate::asked::{bounds, reachable, Call, Tally};
 use crate::bytes::{put_u32, put_u64};
 use crate::calls::Service;
 use crate::checks::{self, Made, FILLER};
 use crate::random::Random;
 use crate::snapshots::{self, Snapshot};
+use crate::steps::Bound;
 use crate::table::Table;
 use crate::traffic::{Nodes, Plan, Shape, Traffic};
 use crate::variant::Variant;
@@ -82,6 +83,8 @@ const SERVICE: Service = Service {
 struct Logged {
     code: u8,
     number: u32,
+    /// What it was refused for, where that was one bound alone.
+    bound: Option<Bound>,
     request_end: usize,
     answer_end: usize,
 }
@@ -100,10 +103,11 @@ pub struct Stream {
 const POKE_COST: usize = HEADER + 16;
 
 impl Stream {
-    fn log(&mut self, code: u8, number: u32) {
+    fn log(&mut self, code: u8, number: u32, bound: Option<Bound>) {
         self.log.push(Logged {
             code,
             number,
+            bound,
             request_end: self.requests.len(),
             answer_end: self.answers.len(),
         });
@@ -127,7 +131,9 @@ impl Stream {
         self.answers
             .extend(answer(number, value, &self.slots[slot]));
         self.answers.extend(&made.out);
-        self.log(call.code(), number);
+        let bounded = matches!(number, 16 | 17);
+        let bound = bounded.then(|| call.bound(&SERVICE, &self.slots[slot]));
+        self.log(call.code(), number, bound.flatten());
         Ok(made)
     }
 
@@ -137,7 +143,7 @@ impl Stream {
         self.requests.extend(bytes);
         self.slots[slot] = bytes.to_vec();
         self.answers.extend(answer(0, 0, bytes));
-        self.log(LOAD, 0);
+        self.log(LOAD, 0, None);
     }
 
     fn poke(&mut self, slot: usize, at: usize, bytes: &[u8]) {
@@ -147,7 +153,7 @@ impl Stream {
         self.requests.extend(bytes);
         self.slots[slot][at..at + bytes.len()].copy_from_slice(bytes);
         self.answers.extend(answer(0, 0, &self.slots[slot]));
-        self.log(POKE, 0);
+        self.log(POKE, 0, None);
     }
 
     fn show(&mut self, slot: usize) {
@@ -155,7 +161,7 @@ impl Stream {
         let table = &self.slots[slot];
         self.answers.extend(answer(0, table.len() as u32, table));
         self.answers.extend(table);
-        self.log(SHOW, 0);
+        self.log(SHOW, 0, None);
     }
 
     /// Brings a slot to these bytes: by pokes, or by a load if its length is another.
@@ -197,6 +203,21 @@ impl Stream {
         let calls = self.log.iter().filter(|logged| logged.code < LOAD);
         calls.for_each(|logged| tally.add(logged.code, logged.number));
         tally
+    }
+
+    /// How often calls with this code were refused for this bound alone.
+    pub fn refused_for(&self, code: u8, bound: Bound) -> usize {
+        let log = self.log.iter();
+        log.filter(|logged| logged.code == code && logged.bound == Some(bound))
+            .count()
+    }
+
+    /// The bounds of these calls that none was refused for alone.
+    pub fn missing_bounds(&self, codes: &[u8]) -> Vec<(u8, Bound)> {
+        let pairs = bounds().filter(|(code, _)| codes.contains(code));
+        pairs
+            .filter(|&(code, bound)| self.refused_for(code, bound) == 0)
+            .collect()
     }
 }
 
@@ -285,6 +306,8 @@ const CLUSTERS: u64 = 24;
 const EPISODE: u64 = 120;
 /// How many tables are shown at most.
 const MOST_SHOWN: u64 = 3;
+/// How many tables of other clusters are looked at for a bound; most have what one takes.
+const BOUND_TABLES: usize = 24;
 /// The slot for tables with a length of their own.
 const SPARE: usize = SLOTS - 1;
 
@@ -349,14 +372,15 @@ impl Generator {
     /// A call aimed at an answer that wasn't given yet, or else at any; if these tables don't have
     /// what it takes, and the stream is half done, on a table of another cluster.
     fn aimed(&self, nodes: &mut Streamed, random: &mut Random) -> Result<(), String> {
-        let (code, number) = self.pair(&nodes.stream, random);
+        let target = self.target(&nodes.stream, random);
         let node = random.within(1..=nodes.tables.len() as u64) as u8;
-        let mut found = aim(random, &nodes.tables, node, code, number);
+        let mut found = target.aim(random, &nodes.tables, node);
         if found.is_none() && 2 * nodes.stream.count() > self.count {
-            found = (0..self.pool.len()).find_map(|_| {
+            let looked_at = target.bound.map_or(self.pool.len(), |_| BOUND_TABLES);
+            found = (0..looked_at).find_map(|_| {
                 let snapshot = &self.pool[random.index(self.pool.len())];
                 let node = random.within(1..=snapshot.len() as u64) as u8;
-                aim(random, snapshot, node, code, number)
+                target.aim(random, snapshot, node)
             });
         }
         match found {
@@ -365,12 +389,19 @@ impl Generator {
         }
     }
 
-    /// The call and the number to aim at. Full tables and other lengths take many bytes, so they
-    /// are rare; a message can be wrong in many ways, so that is often.
-    fn pair(&self, stream: &Stream, random: &mut Random) -> (u8, u32) {
-        let missing = stream.tally().missing(&self.codes);
-        if let Some(pair) = random.choose(&missing).filter(|_| random.chance(70)) {
-            return pair;
+    /// What to aim at: what is missing, or else any. Full tables and other lengths take many bytes,
+    /// so they are rare; a message can be wrong in many ways, so that is often.
+    fn target(&self, stream: &Stream, random: &mut Random) -> Target {
+        let numbers = stream.tally().missing(&self.codes).into_iter();
+        let bounds = stream.missing_bounds(&self.codes).into_iter();
+        let numbers = numbers.map(|(code, number)| Target::of(code, number));
+        let bounds = bounds.map(|(code, bound)| Target {
+            bound: Some(bound),
+            ..Target::of(code, bound.number())
+        });
+        let missing: Vec<Target> = numbers.chain(bounds).collect();
+        if let Some(target) = random.choose(&missing).filter(|_| random.chance(70)) {
+            return target;
         }
         let large = random.chance(3);
         let mut pairs = Vec::new();
@@ -384,7 +415,35 @@ impl Generator {
             };
             pairs.extend([pair].repeat(weight));
         }
-        random.pick(&pairs)
+        let (code, number) = random.pick(&pairs);
+        Target::of(code, number)
+    }
+}
+
+/// A call, the number that it is to answer, and the bound that it is to be refused for alone.
+#[derive(Clone, Copy, Debug)]
+struct Target {
+    code: u8,
+    number: u32,
+    bound: Option<Bound>,
+}
+
+impl Target {
+    fn of(code: u8, number: u32) -> Target {
+        Target {
+            code,
+            number,
+            bound: None,
+        }
+    }
+
+    /// A call that meets it, on the table of a node or on one made of it, if these tables have what
+    /// that takes.
+    fn aim(&self, random: &mut Random, tables: &[Table], node: u8) -> Option<Aimed> {
+        let found = aim(random, tables, node, self.code, self.number);
+        found.filter(|(bytes, call)| {
+            self.bound.is_none() || call.bound(&SERVICE, bytes) == self.bound
+        })
     }
 }
 

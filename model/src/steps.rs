@@ -317,18 +317,48 @@ pub fn settle(before: &Table, mut after: Table, variant: Variant) -> Table {
     after
 }
 
-/// 16: "the outcome needs more than 64 replicas, 256 entries, or 32 in a directory"
-pub fn too_many(table: &Table) -> bool {
-    let crowded = |replica: &Replica| table.entries_of(replica.head.id).count() > MOST_ENTRIES;
-    table.replicas.len() > REPLICA_SLOTS
-        || table.entries.len() > ENTRY_SLOTS
-        || table.replicas.iter().any(crowded)
+/// A bound that an outcome can be past.
+#[derive(Clone, Copy, Debug, PartialEq, Eq)]
+pub enum Bound {
+    Replicas,
+    Entries,
+    Directory,
+    Clock,
+    Version,
+    Count,
 }
 
-/// 17: "the outcome needs a clock, version (2^32-1) or count past its end". "Next count may reach
-/// 16777216, which means none is left."
-pub fn past_end(table: &Table) -> bool {
-    table.highest > LAST_CLOCK
-        || table.replicas.iter().any(|r| r.version > LAST_VERSION)
-        || table.next > LAST_COUNT + 1
+impl Bound {
+    /// All of them, those of the lower refusal first.
+    pub const ALL: [Bound; 6] = [
+        Bound::Replicas,
+        Bound::Entries,
+        Bound::Directory,
+        Bound::Clock,
+        Bound::Version,
+        Bound::Count,
+    ];
+
+    /// 16: "the outcome needs more than 64 replicas, 256 entries, or 32 in a directory"; 17: "the
+    /// outcome needs a clock, version (2^32-1) or count past its end".
+    pub fn number(self) -> u32 {
+        match self {
+            Bound::Replicas | Bound::Entries | Bound::Directory => 16,
+            Bound::Clock | Bound::Version | Bound::Count => 17,
+        }
+    }
+
+    /// Says whether the table is past the bound. "Next count may reach 16777216, which means none is
+    /// left."
+    pub fn is_passed(self, table: &Table) -> bool {
+        let crowded = |replica: &Replica| table.entries_of(replica.head.id).count() > MOST_ENTRIES;
+        match self {
+            Bound::Replicas => table.replicas.len() > REPLICA_SLOTS,
+            Bound::Entries => table.entries.len() > ENTRY_SLOTS,
+            Bound::Directory => table.replicas.iter().any(crowded),
+            Bound::Clock => table.highest > LAST_CLOCK,
+            Bound::Version => table.replicas.iter().any(|r| r.version > LAST_VERSION),
+            Bound::Count => table.next > LAST_COUNT + 1,
+        }
+    }
 }

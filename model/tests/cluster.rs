@@ -33,6 +33,19 @@ fn one_seed_gives_one_run() {
     assert_eq!(once.to_string(), again.to_string());
 }
 
+/// A run with fewer quiets than were asked for fails.
+#[test]
+fn fewer_quiets_than_asked_for() {
+    let covered = run(&options(10, Variant::Right)).expect("no schedule fails");
+    let quiets = covered.quiets;
+    assert_eq!(covered.reached(quiets), Ok(()));
+    let words = covered.reached(quiets + 1).err().unwrap_or_default();
+    assert_eq!(
+        words,
+        format!("{quiets} quiets were checked, fewer than {}", quiets + 1)
+    );
+}
+
 #[test]
 fn every_wrong_variant_is_caught() {
     for variant in Variant::WRONG {

@@ -9,10 +9,12 @@ mod common;
 
 use common::*;
 use rumbezalo_model::calls::*;
+use rumbezalo_model::forge::messages::outcome;
 use rumbezalo_model::push::{Malformed, Push};
 use rumbezalo_model::records::{
     stamp, Entry, Head, Kind, Place, Record, LAST_CLOCK, LAST_COUNT, LAST_VERSION, ROOT,
 };
+use rumbezalo_model::steps::Odds;
 use rumbezalo_model::table::{verdict, Replica, Rule, Table};
 
 // ---- calls on copies
@@ -992,5 +994,98 @@ fn create_with_no_count_and_no_slot() {
         let spent = edited(&table, |t| t.next = LAST_COUNT + 1);
         let created = made(&spent, |t| create(t, 9, 0, FILE, b"a", 0));
         assert_eq!(created, Err(number));
+    }
+}
+
+/// Equal stamps in (c) compare live flag and place. /d/x as ours in both, one deeper: it is 13 for
+/// its place directory, which is deeper too, and not for its own state. Else: for its state; the number
+/// is the same.
+#[test]
+fn equal_stamps_with_another_depth() {
+    let table = receiver();
+    let deeper = forged(&pushed(&sender(), X, 1), 3, |push| {
+        let above = Head {
+            id: THIRD,
+            ..push.heads[1]
+        };
+        push.heads[0].depth = 3;
+        push.heads[1].depth = 2;
+        push.heads[1].place.directory = THIRD;
+        push.heads.push(above);
+    });
+    let push = Push::read(&deeper, 3).expect("a push");
+    let ours = *read(&table).head(X).expect("held");
+    let theirs = push.heads[0];
+    assert_eq!((theirs.stamp, theirs.place), (ours.stamp, ours.place));
+    assert_eq!((theirs.depth, ours.depth), (3, 2));
+    assert_eq!(outcome(&read(&table), 9, &push), Err(Odds::Place));
+    assert_eq!(received(&table, &deeper), Err(13));
+    // With a greater or a smaller stamp it is the same: the directory is what differs.
+    for clock in [1, 9] {
+        let other = forged(&deeper, 3, |push| push.heads[0].stamp = stamp(clock, 2));
+        assert_eq!(received(&table, &other), Err(13));
+    }
+    // Under the root there is no other depth: a head with the root as its place has depth 1.
+    let in_root = forged(&pushed(&sender(), D, 1), 3, |push| push.heads[0].depth = 2);
+    assert_eq!(received(&table, &in_root), Err(4));
+}
+
+/// (f) looks at each slot when it comes to it. /p is told dead while /p/q, /p/f and /p/q/g live: q
+/// brings p back, and when f's slot comes, p lives. Else, if (f) looked before it began: p would be
+/// made live for q and again for f, with two clocks, and its version would still be raised once.
+#[test]
+fn a_place_made_live_by_a_slot_before() {
+    let mut table = fresh(1, 2);
+    let p = make(&mut table, 1, ROOT, DIRECTORY, "p", 3);
+    let q = make(&mut table, 2, p, DIRECTORY, "q", 3);
+    let f = make(&mut table, 3, p, FILE, "f", 3);
+    let g = make(&mut table, 4, q, FILE, "g", 3);
+    let before = read(&table);
+    let dead = forged(&pushed(&table, p, 2), 2, |push| {
+        (push.from, push.to) = (2, 1);
+        push.heads[0].live = false;
+        push.heads[0].stamp = stamp(30, 2);
+        push.entries.clear();
+    });
+    let after = received(&table, &dead).expect("received");
+    let head = after.head(p).expect("held");
+    assert_eq!((head.live, head.stamp), (true, stamp(31, 1)));
+    assert_eq!(after.highest, 31);
+    for id in [q, f, g] {
+        assert_eq!(after.head(id), before.head(id));
+    }
+}
+
+/// The same where a directory that was dead when (f) began lives when its slot comes: /p and /p/q
+/// are dead, and a live file of /p/q, in a slot before both, brings back p and then q. When q's slot
+/// comes, it is live, and so is p: no third clock. So it is in whatever order the slots stand.
+#[test]
+fn a_directory_made_live_before_its_slot() {
+    let mut cluster = Cluster::fresh(2);
+    let branch = chain(cluster.at(1), 2);
+    let g = make(cluster.at(1), 1, branch[1], FILE, "g", 3);
+    cluster.quiet(1);
+    assert_eq!(unlink(cluster.at(1), 1, g.into()), done(0));
+    for &directory in branch.iter().rev() {
+        assert_eq!(remove(cluster.at(1), 1, directory.into()), done(0));
+    }
+    let elsewhere = cluster.at(2).clone();
+    let lives = forged(&pushed(cluster.at(1), g, 2), 2, |push| {
+        (push.from, push.to) = (2, 1);
+        let tree = read(&elsewhere);
+        push.heads = push
+            .heads
+            .iter()
+            .map(|head| *tree.head(head.id).expect("held"))
+            .collect();
+        push.heads[0].stamp = stamp(40, 2);
+    });
+    let turned = edited(cluster.at(1), |t| t.replicas[1..].reverse());
+    for table in [cluster.at(1).clone(), turned] {
+        let after = received(&table, &lives).expect("received");
+        let stamps = branch.iter().map(|&id| after.head(id).expect("held").stamp);
+        let stamps: Vec<u64> = stamps.collect();
+        assert_eq!(stamps, [stamp(41, 1), stamp(42, 1)]);
+        assert_eq!(after.highest, 42);
     }
 }

@@ -1,8 +1,14 @@
 //! Requests and their answers: the format to the byte, and two ways to the same answers.
 
 use rumbezalo_model::answer::serve;
+use rumbezalo_model::asked::Call;
 use rumbezalo_model::bytes::get_u64;
+use rumbezalo_model::calls::Service;
+use rumbezalo_model::records::{LAST_CLOCK, LAST_COUNT};
 use rumbezalo_model::requests::{adler32, generate, Options, Stream, HEADER, MALFORMED};
+use rumbezalo_model::steps::Bound;
+use rumbezalo_model::table::Table;
+use rumbezalo_model::variant::Variant;
 
 const ALL: [u8; 11] = [1, 2, 3, 4, 5, 6, 7, 8, 9, 10, 11];
 
@@ -94,6 +100,7 @@ fn a_stream_covers_all_that_can_be_reached() {
         let stream = stream(seed, 3_000, &ALL, None);
         assert_eq!(stream.count(), 3_000);
         assert_eq!(stream.tally().missing(&ALL), []);
+        assert_eq!(stream.missing_bounds(&ALL), []);
         assert!(stream.requests.len() < 1_000_000 && stream.answers.len() < 1_000_000);
         assert!(
             served(&stream.requests, &ALL) == stream.answers,
@@ -108,6 +115,7 @@ fn a_stream_asks_only_for_some_calls() {
     for allowed in subsets {
         let stream = stream(4, 700, allowed, None);
         assert_eq!(stream.tally().missing(allowed), []);
+        assert_eq!(stream.missing_bounds(allowed), []);
         let asked = codes(&stream.requests);
         assert_eq!(asked.len(), 700);
         let right = |code: &u8| allowed.contains(code) || (32..=34).contains(code);
@@ -115,6 +123,37 @@ fn a_stream_asks_only_for_some_calls() {
         assert!(served(&stream.requests, allowed) == stream.answers);
         assert!(served(&stream.requests, &ALL) == stream.answers);
     }
+}
+
+/// A call is refused for one bound alone, or for two, or for something else.
+#[test]
+fn the_bound_that_a_call_is_refused_for() {
+    let service = Service {
+        variant: Variant::Right,
+    };
+    let table = |highest: u64, next: u64| {
+        let fresh = Table::fresh(1, 2);
+        let table = Table {
+            highest,
+            next,
+            ..fresh
+        };
+        table.bytes()
+    };
+    let create = |name: &[u8]| Call::Create {
+        now: 0,
+        directory: 0,
+        kind: 1,
+        name: name.to_vec(),
+        set: 0,
+    };
+    let bound = |bytes: &[u8], name: &[u8]| create(name).bound(&service, bytes);
+    let spent = LAST_COUNT + 1;
+    assert_eq!(bound(&table(0, 1), b"a"), None);
+    assert_eq!(bound(&table(LAST_CLOCK, 1), b"a"), Some(Bound::Clock));
+    assert_eq!(bound(&table(0, spent), b"a"), Some(Bound::Count));
+    assert_eq!(bound(&table(LAST_CLOCK, spent), b"a"), None);
+    assert_eq!(bound(&table(LAST_CLOCK, 1), b".."), None);
 }
 
 #[test]

@@ -95,13 +95,37 @@ fn made(table: &mut [u8], header: &[u8; 64], payload: &[u8], out: &mut [u8]) -> 
     if code == 1 {
         return service::start::start(table, wire::number(header, 0), wire::number(header, 1));
     }
-    if code == 10 {
-        return service::acknowledged::acknowledged(table, payload);
-    }
     if code == 7 {
         return service::list::list(table, wire::number(header, 0), out);
     }
-    service::pending::pending(table)
+    if code == 10 {
+        return service::acknowledged::acknowledged(table, payload);
+    }
+    if code == 11 {
+        return service::pending::pending(table);
+    }
+    changed(table, header, payload)
+}
+
+// The call that changes the tree.
+fn changed(table: &mut [u8], header: &[u8; 64], payload: &[u8]) -> Answer {
+    let code = header[0];
+    let a = wire::number(header, 0);
+    let b = wire::number(header, 1);
+    let c = wire::number(header, 2);
+    if code == 2 {
+        return service::tree::create(table, a, b, c, payload, wire::number(header, 3));
+    }
+    if code == 3 {
+        return service::tree::unlink(table, a, b);
+    }
+    if code == 4 {
+        return service::tree::rename(table, a, b, c, payload);
+    }
+    if code == 5 {
+        return service::tree::remove(table, a, b);
+    }
+    service::tree::spread(table, a, b)
 }
 
 // Writes number, value, checksum and four zeros, and then the output.

@@ -25,16 +25,16 @@ pub fn is_formed(header: &[u8; 64]) -> bool {
 
 // Whether there is such a request: the calls that have landed, load, poke and show.
 fn is_code(code: u8) -> bool {
-    if code == 1 {
+    if code < 1 {
+        return false;
+    }
+    if code <= 7 {
         return true;
     }
-    if code == 7 {
-        return true;
+    if code < 10 {
+        return false;
     }
-    if code == 10 {
-        return true;
-    }
-    if code == 11 {
+    if code <= 11 {
         return true;
     }
     if code < 32 {

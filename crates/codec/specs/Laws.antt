@@ -81,6 +81,11 @@ pub chunk-add : (l : List ℕ) (o a b : ℕ) → chunk l o (a + b) ≡ chunk l o
 unfolding chunk
 chunk-add l o a b = take-add a b (drop o l) ∙ ap (λ (r : List ℕ). take a (drop o l) ++ take b r) (drop-drop a o l)
 
+-- all that stands from i on
+pub chunk-rest : (l : List ℕ) (i : ℕ) → chunk l i (length l - i) ≡ drop i l
+unfolding chunk
+chunk-rest l i = take-all (length l - i) (drop i l) (simp length-drop (omega arith))
+
 -- ---- what a splice leaves
 
 pub chunk-splice-same : (l : List ℕ) (o : ℕ) (vs : List ℕ) (n : ℕ) → length vs ≡ n → o + n ≤ length l → chunk (splice l o vs) o n ≡ vs
@@ -132,9 +137,9 @@ after o vs e p = e ∙ ap (λ (l : List ℕ). splice l o vs) p
 pub splice-front : (l : List ℕ) (o : ℕ) (src rest : List ℕ) → o + length src ≤ length l →
     rest ≡ take (length src) src ++ drop (length src) (take (length l - o) (drop o l)) →
     take o l ++ (rest ++ drop (length l - o) (drop o l)) ≡ splice l o src
-unfolding splice
+unfolding splice chunk
 splice-front l o src rest h e =
-    let all : take (length l - o) (drop o l) ≡ drop o l = take-all (length l - o) (drop o l) (simp length-drop (omega arith)) in
+    let all : take (length l - o) (drop o l) ≡ drop o l = chunk-rest l o in
     let none : drop (length l - o) (drop o l) ≡ [] = drop-of-length-le (drop o l) {i = length l - o} (simp length-drop (omega arith)) in
     rw (none, append-nil, e, all, take-length, drop-drop)
 
@@ -368,3 +373,14 @@ marked-chunk l o n mark h = rw first-chunk
 
 pub zero-chunk : (l : List ℕ) (o n p k : ℕ) → p + k ≤ n → zeroAt (chunk l o n) p k ≡ zeroAt l (o + p) k
 zero-chunk l o n p k h = rw chunk-chunk
+
+-- where n bytes are the number 0, all bytes are zero exactly if those behind them are
+skipped : (n : ℕ) (s : List ℕ) → le (take n s) ≡ 0 → allAre 0 s ≡ allAre 0 (drop n s)
+unfolding le every
+skipped zero s h = refl
+skipped (suc n) [] h = refl
+skipped (suc n) (x ∷ s) h = simp (eq-eqb x 0 (omega arith)) (skipped n s (omega arith))
+
+pub zeros-skipped : (l : List ℕ) (o n : ℕ) → le (chunk l o n) ≡ 0 → allAre 0 (drop o l) ≡ allAre 0 (drop (o + n) l)
+unfolding chunk
+zeros-skipped l o n h = skipped n (drop o l) h ∙ ap (allAre 0) (drop-drop n o l)

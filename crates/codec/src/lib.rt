@@ -7,7 +7,7 @@
 ghost use mathlib.Core.Path.{_≡_};
 ghost use Prim.Native.Nat.{_+_, _≤_, _<_};
 ghost use mathlib.Core.List.{[], _∷_};
-ghost use lib.ListN.{length};
+ghost use lib.ListN.{length, drop};
 ghost use Rattle.codec.specs.Bytes.{chunk, splice, u8, u32, u64, u8At, u32At, u64At, allAre, sameBytes, markedAt, zeroAt};
 
 // A byte as a wider number. A cast of an element wants a proof that it fits; a cast of a parameter
@@ -156,10 +156,26 @@ pub fn is_marked(t: &[u8], o: usize, mark: [u8; 2]) -> bool
     same_bytes(part(t, o, 2), &mark)
 }
 
+// How many bytes of s are zero at its start, by eights: all are zero exactly if those behind them are.
+fn past_zeros(s: &[u8]) -> usize
+    ensures { λ r. ⌜ (r ≤ length (now (s .entry))) × (allAre 0 (now (s .entry)) ≡ allAre 0 (drop r (now (s .entry)))) ⌝ }
+{
+    let mut i = 0;
+    while 8 <= s.len() - i {
+        if get_u64(s, i) != 0 {
+            return i;
+        }
+        i += 8;
+    }
+    i
+}
+
 // Whether the n bytes from o on are zero.
 pub fn is_zero(t: &[u8], o: usize, n: usize) -> bool
     requires { ⌜ o + n ≤ length (now t) ⌝ }
     ensures { λ r. ⌜ r ≡ zeroAt (now (t .entry)) o n ⌝ }
 {
-    all_are(part(t, o, n), 0)
+    let s = part(t, o, n);
+    let i = past_zeros(s);
+    all_are(part(s, i, s.len() - i), 0)
 }

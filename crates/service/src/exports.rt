@@ -2,7 +2,7 @@
 ghost use mathlib.Core.Path.{_≡_};
 ghost use lib.ListN.{length};
 ghost use Rattle.document.specs.Outcomes.{outputAfter, tableAfter};
-ghost use Rattle.document.specs.Calls.{acknowledged, list, pending, start};
+ghost use Rattle.document.specs.Calls.{acknowledged, create, list, pending, remove, rename, spread, start, unlink};
 ghost use Rattle.answers.specs.Answers.{packed};
 
 #[no_mangle]
@@ -38,4 +38,54 @@ pub extern "C" fn rumbezalo_acknowledged(table: &mut [u8], message: &[u8]) -> u6
         ≡ tableAfter (acknowledged (now (table .entry)) (now (message .entry))) (now (table .entry))) ⌝ }
 {
     answers::pack(crate::acknowledged::acknowledged(table, message))
+}
+
+#[no_mangle]
+pub extern "C" fn rumbezalo_create(table: &mut [u8], time: u64, directory: u64, kind: u64, name: &[u8], set: u64) -> u64
+    ensures { λ r.
+        ⌜ (r ≡ packed (create (now (table .entry)) time directory kind (now (name .entry)) set))
+        × (now (table .exit)
+        ≡ tableAfter (create (now (table .entry)) time directory kind (now (name .entry)) set) (now (table .entry))) ⌝ }
+{
+    answers::pack(crate::tree::create(table, time, directory, kind, name, set))
+}
+
+#[no_mangle]
+pub extern "C" fn rumbezalo_unlink(table: &mut [u8], time: u64, id: u64) -> u64
+    ensures { λ r.
+        ⌜ (r ≡ packed (unlink (now (table .entry)) time id))
+        × (now (table .exit)
+        ≡ tableAfter (unlink (now (table .entry)) time id) (now (table .entry))) ⌝ }
+{
+    answers::pack(crate::tree::unlink(table, time, id))
+}
+
+#[no_mangle]
+pub extern "C" fn rumbezalo_rename(table: &mut [u8], time: u64, id: u64, directory: u64, name: &[u8]) -> u64
+    ensures { λ r.
+        ⌜ (r ≡ packed (rename (now (table .entry)) time id directory (now (name .entry))))
+        × (now (table .exit)
+        ≡ tableAfter (rename (now (table .entry)) time id directory (now (name .entry))) (now (table .entry))) ⌝ }
+{
+    answers::pack(crate::tree::rename(table, time, id, directory, name))
+}
+
+#[no_mangle]
+pub extern "C" fn rumbezalo_remove(table: &mut [u8], time: u64, id: u64) -> u64
+    ensures { λ r.
+        ⌜ (r ≡ packed (remove (now (table .entry)) time id))
+        × (now (table .exit)
+        ≡ tableAfter (remove (now (table .entry)) time id) (now (table .entry))) ⌝ }
+{
+    answers::pack(crate::tree::remove(table, time, id))
+}
+
+#[no_mangle]
+pub extern "C" fn rumbezalo_spread(table: &mut [u8], id: u64, set: u64) -> u64
+    ensures { λ r.
+        ⌜ (r ≡ packed (spread (now (table .entry)) id set))
+        × (now (table .exit)
+        ≡ tableAfter (spread (now (table .entry)) id set) (now (table .entry))) ⌝ }
+{
+    answers::pack(crate::tree::spread(table, id, set))
 }

@@ -6,3 +6,4 @@ pub mod exports;
 pub mod list;
 pub mod pending;
 pub mod start;
+pub mod tree;

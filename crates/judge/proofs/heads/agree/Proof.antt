@@ -1,0 +1,85 @@
+-- `judge::heads::agree` meets its contract. The loop's invariant: all agree exactly if those from j on do.
+-- Assumes nothing.
+use mathlib.Core.Path.{_≡_, refl, ap, sym, _∙_}
+use Prim.Native.Nat.{ℕ, _-_, _≤_}
+use native.Mathlib.Omega.{arith}
+use native.Mathlib.Nat.{sub-zero}
+use Rattle.codec.specs.Lists.{and-stop, and-go, failed, passed}
+use Rattle.document.specs.Tables.{everySlot, tableOf}
+use Rattle.table.specs.Slots.{slots-step, slots-none}
+use Rattle.judge.specs.Judging.{headIn, headAgrees, headsAgree}
+use borrow.Author.Needs.{needs}
+use Rattle.judge.proofs.heads.agree.Statement.{statement}
+use Rattle.judge.proofs.heads.agree.Tie as tie
+
+abbrev Inv-loop : tie.InvT-loop
+Inv-loop t m message n j₀ j =
+    (j ≤ n)
+    × (headsAgree (tableOf t) message n ≡ everySlot (λ (i : ℕ). headAgrees (tableOf t) (headIn message i)) j (n - j))
+
+abbrev μ-loop : tie.MeasureT-loop
+μ-loop t m message n j₀ j =
+    n - j
+
+loop-holds : tie.Need-loop-holds Inv-loop μ-loop
+loop-holds c = (omega arith, simp sub-zero)
+
+mul-read : tie.Need-mul-read Inv-loop μ-loop
+mul-read c = search needs
+
+add-read : tie.Need-add-read Inv-loop μ-loop
+add-read c = search needs
+
+read-requires : tie.Need-read-requires Inv-loop μ-loop
+read-requires c κs = search needs
+
+agrees-requires : tie.Need-agrees-requires Inv-loop μ-loop
+agrees-requires c κs = search needs
+
+returns : tie.Need-returns Inv-loop μ-loop
+returns c =
+    let a = c .before .before .before .before .before .before .before .args in
+    let loop = c .before .before .before .before .loop in
+    let loop-test = c .before .before .before .loop-test in
+    let read = c .before .before .read in
+    let here =
+    c .before .agrees .ensures ∙ ap (headAgrees (tableOf (a .t .now))) (read .ensures) in
+    and-stop _ _ (failed here (c .if1 .taken)) ∙ sym (loop .inv .1 ∙ slots-step _ _ _ (loop-test .taken))
+
+add-j : tie.Need-add-j Inv-loop μ-loop
+add-j c = search needs
+
+loop-less : tie.Need-loop-less Inv-loop μ-loop
+loop-less c = search needs
+
+loop-again : tie.Need-loop-again Inv-loop μ-loop
+loop-again c =
+    let a = c .before .before .before .before .before .before .before .args in
+    let loop = c .before .before .before .before .loop in
+    let loop-test = c .before .before .before .loop-test in
+    let read = c .before .before .read in
+    let here =
+    c .before .agrees .ensures ∙ ap (headAgrees (tableOf (a .t .now))) (read .ensures) in (
+      omega (arith, loop-test .taken),
+      loop .inv .1 ∙ slots-step _ _ _ (loop-test .taken) ∙ sym (and-go _ _ (passed here (c .if1 .left)) refl),
+    )
+
+returns-2 : tie.Need-returns-2 Inv-loop μ-loop
+returns-2 c = sym (c .before .loop .inv .1 ∙ slots-none _ _ _ (c .loop-test .left))
+
+pub agree-spec : {M : Type 1} → statement M
+agree-spec =
+    tie.close
+    (tie.spec
+    Inv-loop
+    μ-loop
+    loop-holds
+    mul-read
+    add-read
+    read-requires
+    agrees-requires
+    returns
+    add-j
+    loop-less
+    loop-again
+    returns-2)

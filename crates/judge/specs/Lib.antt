@@ -1,0 +1,4 @@
+pub mod Apart
+pub mod Deciding
+pub mod Judging
+pub mod Keys

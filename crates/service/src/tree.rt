@@ -1,0 +1,80 @@
+// The calls that change the tree: create, unlink, rename, remove, spread. The table is judged here; the
+// rest is done in `changes`.
+use answers::Answer;
+ghost use mathlib.Core.Path.{_≡_};
+ghost use Rattle.document.specs.Outcomes.{tableAfter};
+ghost use Rattle.document.specs.Calls.{create, unlink, rename, remove, spread};
+ghost use Rattle.answers.specs.Answers.{answerOf};
+
+// Creates a file (1) or a directory (2) with that name in the directory, for the nodes of the set; the
+// value is its id.
+pub fn create(table: &mut [u8], time: u64, directory: u64, kind: u64, name: &[u8], set: u64) -> Answer
+    ensures { λ r. ⌜ (r ≡ answerOf (create (now (table .entry)) time directory kind (now (name .entry)) set))
+        × (now (table .exit)
+        ≡ tableAfter (create (now (table .entry)) time directory kind (now (name .entry)) set) (now (table .entry))) ⌝ }
+{
+    if !table::is_sound(table) {
+        return Answer {
+            number: 1,
+            value: 0,
+        };
+    }
+    changes::create::create(table, time, directory, kind, name, set)
+}
+
+// Unlinks the file.
+pub fn unlink(table: &mut [u8], time: u64, id: u64) -> Answer
+    ensures { λ r. ⌜ (r ≡ answerOf (unlink (now (table .entry)) time id))
+        × (now (table .exit) ≡ tableAfter (unlink (now (table .entry)) time id) (now (table .entry))) ⌝ }
+{
+    if !table::is_sound(table) {
+        return Answer {
+            number: 1,
+            value: 0,
+        };
+    }
+    changes::unlink::unlink(table, time, id)
+}
+
+// Renames the file to the name in the directory.
+pub fn rename(table: &mut [u8], time: u64, id: u64, directory: u64, name: &[u8]) -> Answer
+    ensures { λ r. ⌜ (r ≡ answerOf (rename (now (table .entry)) time id directory (now (name .entry))))
+        × (now (table .exit)
+        ≡ tableAfter (rename (now (table .entry)) time id directory (now (name .entry))) (now (table .entry))) ⌝ }
+{
+    if !table::is_sound(table) {
+        return Answer {
+            number: 1,
+            value: 0,
+        };
+    }
+    changes::rename::rename(table, time, id, directory, name)
+}
+
+// Removes the directory.
+pub fn remove(table: &mut [u8], time: u64, id: u64) -> Answer
+    ensures { λ r. ⌜ (r ≡ answerOf (remove (now (table .entry)) time id))
+        × (now (table .exit) ≡ tableAfter (remove (now (table .entry)) time id) (now (table .entry))) ⌝ }
+{
+    if !table::is_sound(table) {
+        return Answer {
+            number: 1,
+            value: 0,
+        };
+    }
+    changes::remove::remove(table, time, id)
+}
+
+// Spreads the replica to the nodes of the set.
+pub fn spread(table: &mut [u8], id: u64, set: u64) -> Answer
+    ensures { λ r. ⌜ (r ≡ answerOf (spread (now (table .entry)) id set))
+        × (now (table .exit) ≡ tableAfter (spread (now (table .entry)) id set) (now (table .entry))) ⌝ }
+{
+    if !table::is_sound(table) {
+        return Answer {
+            number: 1,
+            value: 0,
+        };
+    }
+    changes::spread::spread(table, id, set)
+}
