@@ -98,6 +98,9 @@ fn made(table: &mut [u8], header: &[u8; 64], payload: &[u8], out: &mut [u8]) -> 
     if code == 7 {
         return service::list::list(table, wire::number(header, 0), out);
     }
+    if code == 8 {
+        return service::push::push(table, wire::number(header, 0), wire::number(header, 1), out);
+    }
     if code == 10 {
         return service::acknowledged::acknowledged(table, payload);
     }

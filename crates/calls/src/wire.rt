@@ -28,7 +28,7 @@ fn is_code(code: u8) -> bool {
     if code < 1 {
         return false;
     }
-    if code <= 7 {
+    if code <= 8 {
         return true;
     }
     if code < 10 {

@@ -2,3 +2,4 @@ pub mod Acknowledging
 pub mod Listing
 pub mod Pending
 pub mod Starting
+pub mod Pushing

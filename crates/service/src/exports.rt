@@ -2,7 +2,7 @@
 ghost use mathlib.Core.Path.{_≡_};
 ghost use lib.ListN.{length};
 ghost use Rattle.document.specs.Outcomes.{outputAfter, tableAfter};
-ghost use Rattle.document.specs.Calls.{acknowledged, create, list, pending, remove, rename, spread, start, unlink};
+ghost use Rattle.document.specs.Calls.{acknowledged, create, list, pending, push, remove, rename, spread, start, unlink};
 ghost use Rattle.answers.specs.Answers.{packed};
 
 #[no_mangle]
@@ -88,4 +88,14 @@ pub extern "C" fn rumbezalo_spread(table: &mut [u8], id: u64, set: u64) -> u64
         ≡ tableAfter (spread (now (table .entry)) id set) (now (table .entry))) ⌝ }
 {
     answers::pack(crate::tree::spread(table, id, set))
+}
+
+#[no_mangle]
+pub extern "C" fn rumbezalo_push(table: &[u8], id: u64, node: u64, out: &mut [u8]) -> u64
+    ensures { λ r.
+        ⌜ (r ≡ packed (push (now (table .entry)) id node (length (now (out .entry)))))
+        × (now (out .exit)
+        ≡ outputAfter (push (now (table .entry)) id node (length (now (out .entry)))) (now (out .entry))) ⌝ }
+{
+    answers::pack(crate::push::push(table, id, node, out))
 }

@@ -5,5 +5,6 @@ pub mod acknowledged;
 pub mod exports;
 pub mod list;
 pub mod pending;
+pub mod push;
 pub mod start;
 pub mod tree;

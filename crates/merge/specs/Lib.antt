@@ -1,0 +1,9 @@
+pub mod Clocks
+pub mod Entries
+pub mod Heads
+pub mod Keeping
+pub mod Live
+pub mod Merging
+pub mod Message
+pub mod Turns
+pub mod Working
