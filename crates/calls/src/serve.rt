@@ -1,8 +1,8 @@
 // One request against the eight tables, which stand side by side, 20,480 bytes for each.
 use crate::adler::adler;
 use crate::wire;
-use libc::STDOUT_FILENO;
 use answers::Answer;
+use libc::STDOUT_FILENO;
 ghost use mathlib.Core.Path.{_≡_};
 ghost use Prim.Native.Nat.{_+_, _*_, _≤_, _<_};
 ghost use lib.ListN.{length};
@@ -100,6 +100,9 @@ fn made(table: &mut [u8], header: &[u8; 64], payload: &[u8], out: &mut [u8]) -> 
     }
     if code == 8 {
         return service::push::push(table, wire::number(header, 0), wire::number(header, 1), out);
+    }
+    if code == 9 {
+        return service::receive::receive(table, wire::number(header, 0), payload, out);
     }
     if code == 10 {
         return service::acknowledged::acknowledged(table, payload);

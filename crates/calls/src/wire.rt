@@ -23,15 +23,9 @@ pub fn is_formed(header: &[u8; 64]) -> bool {
     codec::get_u64(header, 56) <= 65536
 }
 
-// Whether there is such a request: the calls that have landed, load, poke and show.
+// Whether there is such a request: the calls, load, poke and show.
 fn is_code(code: u8) -> bool {
     if code < 1 {
-        return false;
-    }
-    if code <= 8 {
-        return true;
-    }
-    if code < 10 {
         return false;
     }
     if code <= 11 {

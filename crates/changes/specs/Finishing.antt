@@ -154,14 +154,14 @@ module _ (v : ℕ) (h : Head) (t u : Table) where
       skip 16 (tooMany (settle t (stated h u))) _ (done v (settle t (stated h u)) []) (many-settle t (stated h u) ∙ e)
 
 -- the state has no room, or it stands in the copy
-not-made : {b : Bool} {l : List ℕ} {u : Table} → Made b l u → b ≡ false → tooMany u ≡ true
+pub not-made : {b : Bool} {l : List ℕ} {u : Table} → Made b l u → b ≡ false → tooMany u ≡ true
 not-made {b} {l} {u} m e = go (tooMany u) (sym e ∙ m .room)
   where
     go : (b : Bool) → false ≡ not b → b ≡ true
     go true e = refl
     go false e = never e
 
-made : {b : Bool} {l : List ℕ} {u : Table} → Made b l u → b ≡ true → tooMany u ≡ false
+pub made : {b : Bool} {l : List ℕ} {u : Table} → Made b l u → b ≡ true → tooMany u ≡ false
 made {b} {l} {u} m e = go (tooMany u) (sym e ∙ m .room)
   where
     go : (b : Bool) → true ≡ not b → b ≡ false

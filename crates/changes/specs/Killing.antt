@@ -143,11 +143,10 @@ module _ {l : List ℕ} {now : ℕ} {h : Head} (k : Takes l now h) where
   unlink-kills e n =
       let s = sound-table l (k .sound) in
       let below : h .id ≡ 0 → ⊥ =
-      λ z. n (ap (λ (g : Head). g .kind) (root-only held-table (s .root-first) (h .id) h (k .held) z)) in
-      (
+      λ z. n (ap (λ (g : Head). g .kind) (root-only held-table (s .root-first) (h .id) h (k .held) z)) in (
         record { sound = k .sound; early = k .early; held = k .held; below = below },
         unlink-held ∙ skip 7 (isDead (some h)) _ _ (live-is h e) ∙ skip 8 (isDirectory h) _ _ (ne-eqb (h .kind) 2 n)
-        ∙ skip 12 (placeNotHeld held-table (some h)) _ _ (place-there (tableOf l) s h (k .held) below),
+            ∙ skip 12 (placeNotHeld held-table (some h)) _ _ (place-there (tableOf l) s h (k .held) below),
       )
 
 -- ---- remove
@@ -232,8 +231,7 @@ module _ {l : List ℕ} {now : ℕ} {h : Head} (k : Takes l now h) where
 
         pub remove-kills : liveChild (h .id) (tableOf l .replicas) ≡ false →
             Kills l now h × (removeIn now (h .id) (tableOf l) ≡ kills now (tableOf l) h)
-        remove-kills q =
-            (
-              record { sound = k .sound; early = k .early; held = k .held; below = z },
-              remove-rest ∙ skip 10 (anyShown (h .id) (tableOf l .entries) || liveChild (h .id) (tableOf l .replicas)) _ _ (child-rest ∙ q),
-            )
+        remove-kills q = (
+          record { sound = k .sound; early = k .early; held = k .held; below = z },
+          remove-rest ∙ skip 10 (anyShown (h .id) (tableOf l .entries) || liveChild (h .id) (tableOf l .replicas)) _ _ (child-rest ∙ q),
+        )

@@ -46,7 +46,12 @@ fn make(table: &mut [u8], time: u64, p: Head, kind: u8, name: Name, set: u8) -> 
     let id = state::take_id(&mut copy);
     let stamp = state::draw(&mut copy, time);
     let holders = nodes::join(set, nodes::single(codec::get_u8(table, 2)));
-    finish::change(table, &mut copy, born(kind, id, stamp, holders, p, name), id)
+    finish::change(
+        table,
+        &mut copy,
+        born(kind, id, stamp, holders, p, name),
+        id,
+    )
 }
 
 // Whether time, kind, name and set are in their ranges.
@@ -100,7 +105,14 @@ fn create_in(table: &mut [u8], time: u64, p: Head, kind: u8, name: Name, set: u8
 }
 
 // Creates a file (1) or a directory (2); the value is its id.
-pub fn create(table: &mut [u8], time: u64, directory: u64, kind: u64, name: &[u8], set: u64) -> Answer
+pub fn create(
+    table: &mut [u8],
+    time: u64,
+    directory: u64,
+    kind: u64,
+    name: &[u8],
+    set: u64,
+) -> Answer
     requires { ⌜ soundBytes (now table) ≡ true ⌝ }
     ensures { λ r. ⌜ (r ≡ answerOf (createIn time directory kind (now (name .entry)) set (tableOf (now (table .entry)))))
         × (now (table .exit)
@@ -120,5 +132,12 @@ pub fn create(table: &mut [u8], time: u64, directory: u64, kind: u64, name: &[u8
             value: 0,
         };
     };
-    create_in(table, time, Head::read(table, 32 + 48 * i), kind as u8, given, set as u8)
+    create_in(
+        table,
+        time,
+        Head::read(table, 32 + 48 * i),
+        kind as u8,
+        given,
+        set as u8,
+    )
 }

@@ -58,10 +58,7 @@ pub fn finish(table: &mut [u8], copy: &mut [u8], value: u32) -> Answer
         };
     }
     codec::replace(table, 0, copy);
-    Answer {
-        number: 0,
-        value,
-    }
+    Answer { number: 0, value }
 }
 
 // Sets the state on the copy and ends the call.

@@ -1,28 +1,26 @@
--- "Nothing ever falls": the steps only add, up to `settle`: a put above what is held, joins, a new stamp, making live,
--- the
--- steps of receive. Assumes nothing.
+-- "Nothing ever falls": the steps only add, up to `settle`: a put above what is held, joins, a new stamp, making
+-- live, the steps of receive. Assumes nothing.
 use mathlib.Core.Path.{_≡_, refl, ap, sym, subst, _∙_}
 use mathlib.Core.Logic.{_⊎_, inl, inr}
 use mathlib.Core.Bool.{Bool, true, false, cond}
 use mathlib.Core.Option.{Option, some, none}
-use mathlib.Core.List.{List, [], _∷_, _++_, map, List·Memᴰ·head, List·Memᴰ·tail, List·Memᴰ·cases-cons}
-use Prim.Native.Nat.{ℕ, suc, _+_, _*_, _≤_, _<_, max}
+use mathlib.Core.List.{List, [], _∷_, List·Memᴰ·head, List·Memᴰ·tail}
+use Prim.Native.Nat.{ℕ, suc, _+_, _*_, _≤_, _<_}
 use native.Mathlib.Omega.{arith}
 use lib.Dec.{ltb}
 use borrow.Author.Tests.{ltb-true}
 use Rattle.numbers.specs.Nodes.{has, join}
-use Rattle.numbers.specs.Ids.{clockOf}
 use Rattle.records.specs.declared.head.Head.{Head}
-use Rattle.records.specs.declared.entry.Entry.{Entry}
 use Rattle.slots.specs.declared.listed.Listed.{Listed}
 use Rattle.document.specs.Tables.{Table, withHighest, find, headOf}
 use Rattle.document.specs.Steps.{clockAt, stampAt, joined, put, setBy, joinAll, issue, withHolders}
 use Rattle.document.specs.Messages.{Push}
-use Rattle.document.specs.Receive.{highest, stampsOf, stepA, withOwn, makeMissing, stepB, merged}
+use Rattle.document.specs.Receive.{stampsOf, stepA, withOwn, makeMissing, stepB, merged}
 use Rattle.views.specs.Lists.{In, same?}
 use Rattle.views.specs.Puts.{pendingOf, version-put, pending-put, head-put-same, head-put-other, head-own}
 use Rattle.views.specs.Sets.{has-join-left}
 use Rattle.views.specs.Joins.{join-all}
+use Rattle.kept.specs.ReceiveAbove.{highest-least, seen-head}
 use Rattle.cluster.specs.Ranks.{rankO, holdO, rank, vers, Covers, leq-refl, leq-trans, join-grows}
 
 -- u has all that t has, and the same versions and pending sets
@@ -143,41 +141,16 @@ up-issue now f t own k st hold =
 
 -- ---- the steps of receive, up to (e)
 
-high-le : (ss : List ℕ) (c : ℕ) → c ≤ highest c ss
-unfolding highest
-high-le [] c = omega arith
-high-le (s ∷ ss) c = omega (arith, high-le ss (max c (clockOf s)))
-
-high-head : (hs : List Head) (ss : List ℕ) (c : ℕ) (h : Head) → In h hs →
-    clockOf (h .stamp) ≤ highest c (map (λ (x : Head). x .stamp) hs ++ ss)
-unfolding highest
-high-head [] ss c h m = elim m [ ]
-high-head (x ∷ xs) ss c h m = go (List·Memᴰ·cases-cons m) (high-head xs ss (max c (clockOf (x .stamp))) h)
-  where
-    go : (h ≡ x) ⊎ In h xs →
-        (In h xs → clockOf (h .stamp) ≤ highest (max c (clockOf (x .stamp))) (map (λ (x : Head). x .stamp) xs ++ ss)) →
-        clockOf (h .stamp) ≤ highest (max c (clockOf (x .stamp))) (map (λ (x : Head). x .stamp) xs ++ ss)
-    go (inl e) ih =
-        omega (
-          arith,
-          high-le (map (λ (x : Head). x .stamp) xs ++ ss) (max c (clockOf (x .stamp))),
-          ap (λ (z : Head). z .stamp) e,
-        )
-    go (inr i) ih = ih i
-
 -- every head has a clock that was seen
 abbrev pub Seen : List Head → Table → Type 0
 Seen hs t = (h : Head) → In h hs → h .stamp < t .highest * 256 + 256
 
 pub up-stepA : (p : Push) (t : Table) → Up t (stepA p t)
 unfolding stepA
-up-stepA p t = up-highest t _ (high-le (stampsOf p) (t .highest))
+up-stepA p t = up-highest t _ (highest-least (stampsOf p) (t .highest))
 
 pub seen-stepA : (p : Push) (t : Table) → Seen (p .first ∷ p .above) (stepA p t)
-unfolding stepA
-seen-stepA p t h m =
-    let c = high-head (p .first ∷ p .above) (map (λ (e : Entry). e .stamp) (p .entries)) (t .highest) h m in
-    omega arith
+seen-stepA p t h m = omega (arith, seen-head p t h m)
 
 pub up-new : (h : Head) (t : Table) → headOf t (h .id) ≡ none → h .stamp < t .highest * 256 + 256 →
     Up t (put (withOwn h t) t)

@@ -1,6 +1,5 @@
 -- The beginning: nobody has started, and a start may come late. Until it comes, the node is taken to stand there with
--- its
--- fresh table, which no other node looks at. So what holds of every cluster that can be reached. Assumes nothing.
+-- its fresh table, which no other node looks at. So what holds of every cluster that can be reached. Assumes nothing.
 use mathlib.Core.Path.{_≡_, refl, ap, sym, subst, _∙_}
 use mathlib.Core.Bool.{Bool, true, false, _&&_, not, cond, true≢false}
 use mathlib.Core.Option.{some, none}

@@ -26,7 +26,7 @@ use Rattle.views.specs.Lists.{In}
 abbrev pub Node : ℕ → ℕ → Type 0
 Node n i = (1 ≤ i) × (i ≤ n)
 
--- "A replica's state is its live flag, place and stamp": and whose it is
+-- "A replica's state is its live flag, place and stamp": and whose it is; the place is a directory and a name
 pub record State : Type 0 where
   pub id : ℕ
   pub stamp : ℕ
@@ -45,7 +45,7 @@ pub record Cluster : Type 0 where
   pub written : List (List ℕ)
   pub issued : List State
 
--- ---- the calls: "they make any calls"
+-- ---- the calls: "they make any calls", with any arguments; to start is a step of its own, since it is done once
 
 pub data Call : Type 0 where
   creates : (now d kind : ℕ) (name : List ℕ) (set : ℕ) → Call
@@ -89,8 +89,8 @@ sends (hears message) o = []
 sends counts o = []
 
 -- ---- the states that a call issues, the last first: for each stamp that it draws, the state that it gives it to. A
--- stamp
--- is drawn by create, unlink, remove and rename, and by receive where it makes a directory live.
+-- stamp is drawn by create, unlink, remove and rename, and by receive where it makes a directory live. `Issued` proves
+-- that the states so listed are those that ever stood in a table, the root's apart.
 
 abbrev pub stated : Option Head → (Head → Head) → List State
 stated none f = []
@@ -158,7 +158,7 @@ Handed c (lists id room) = Unit {0}
 Handed c (pushes id node room) = Unit {0}
 Handed c counts = Unit {0}
 
--- node i has made the call k
+-- node i has made the call k, on the bytes that its last call left: "never go back to an earlier table"
 abbrev pub after : Cluster → ℕ → Call → Cluster
 after c i k =
     let o = answer k (c .bytes i) in
@@ -190,10 +190,11 @@ pub data Later (b : Cluster) : Cluster → Type 0 where
   more : {c : Cluster} → Later b c → (i : ℕ) (k : Call) → Node (c .nodes) i → c .started i ≡ true → Handed c k →
       Later b (after c i k)
 
--- nobody has started, and what the nodes lend is any bytes
+-- the beginning: nobody has started, and what the nodes lend is any bytes
 abbrev pub idle : ℕ → (ℕ → List ℕ) → Cluster
 idle n lent = record { nodes = n; started = λ (i : ℕ). false; bytes = lent; written = []; issued = [] }
 
+-- "all the nodes .. each started"
 abbrev pub Started : Cluster → Type 0
 Started c = (i : ℕ) → Node (c .nodes) i → c .started i ≡ true
 
@@ -213,7 +214,8 @@ module _ (n : ℕ) (tab : ℕ → Table) (issued : List State) where
   abbrev pub Shown : ℕ → ℕ → ℕ → Name → Type 0
   Shown i d f name = (e : Entry) × (entryOf (tab i) d f name ≡ some e) × (e .live ≡ 1)
 
-  -- "that child is live and this is its place, name included": "the root .. stands in no entry"
+  -- "that child is live and this is its place, name included", on some node, and so on every one that holds it: "the
+  -- root .. stands in no entry"
   pub record LivesAt (d f : ℕ) (name : Name) : Type 0 where
     pub node : ℕ
     pub head : Head
@@ -223,7 +225,7 @@ module _ (n : ℕ) (tab : ℕ → Table) (issued : List State) where
     pub directory : head .directory ≡ d
     pub named : head .name ≡ name
 
-  -- "a path of live entries from the root"
+  -- "a path of live entries from the root", all of them on node i
   pub data Path (i : ℕ) : ℕ → Type 0 where
     top : Path i 0
     down : (d f : ℕ) (name : Name) → Path i d → Shown i d f name → Path i f
@@ -231,7 +233,7 @@ module _ (n : ℕ) (tab : ℕ → Table) (issued : List State) where
   pub record Demand3 : Type 0 where
     -- "every node named as a holder of a file holds it"
     pub held : (i j f : ℕ) (h : Head) → Holds i f h → has (h .holders) j ≡ true → (g : Head) × Holds j f g
-    -- "all its replicas agree in state, holders and entries"
+    -- "all its replicas agree in state, holders and entries": the entries as they stand, and as a lookup finds them
     pub states : (i j f : ℕ) (g h : Head) → Holds i f g → Holds j f h → stateOf g ≡ stateOf h
     pub holders : (i j f : ℕ) (g h : Head) → Holds i f g → Holds j f h → g .holders ≡ h .holders
     pub entries : (i j f : ℕ) (g h : Head) → Holds i f g → Holds j f h →
@@ -241,8 +243,12 @@ module _ (n : ℕ) (tab : ℕ → Table) (issued : List State) where
     -- "and show the state with the greatest stamp ever issued for it" ("the root has no issued stamp")
     pub shows : (i f : ℕ) (h : Head) → Holds i f h → (f ≡ 0 → ⊥) → In (stateOf h) issued
     pub greatest : (i f : ℕ) (h : Head) → Holds i f h → (s : State) → In s issued → s .id ≡ f → s .stamp ≤ h .stamp
+    -- it is one state ("the state"): no stamp is issued twice
+    pub once : (r s : State) → In r issued → In s issued → r .stamp ≡ s .stamp → r ≡ s
+    -- and there is a replica to show it: a file of which a state was ever issued is held by a node
+    pub there : (s : State) → In s issued → (i : ℕ) × (h : Head) × Holds i (s .id) h
     -- "each directory has a live entry for a child and name exactly when that child is live and this is its place, name
-    -- included"
+    -- included": on each node that holds it
     pub shown : (i d : ℕ) (p : Head) → Holds i d p → (f : ℕ) (name : Name) → Shown i d f name ↔ LivesAt d f name
     -- "and every live file has a path of live entries from the root on each node that holds it"
     pub path : (i f : ℕ) (h : Head) → Holds i f h → h .live ≡ 1 → Path i f

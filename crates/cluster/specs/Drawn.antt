@@ -1,6 +1,5 @@
 -- Each stamp that a call draws stands in its table when the call ends, with the state that it was given to: so the
--- states
--- ever issued are those that stood in a table at an earlier point of the run. Assumes nothing.
+-- states ever issued are those that stood in a table at an earlier point of the run. Assumes nothing.
 use mathlib.Core.Path.{_≡_, refl, ap, sym, subst, _∙_}
 use mathlib.Core.Logic.{_⊎_, inl, inr}
 use mathlib.Core.Bool.{Bool, true, false, _&&_, not, cond}
@@ -25,11 +24,11 @@ use Rattle.views.specs.Lists.{In, no-both, some-only}
 use Rattle.views.specs.Puts.{head-id}
 use Rattle.views.specs.Issues.{issue-head-same, issue-head-other}
 use Rattle.views.specs.Settles.{head-settle}
-use Rattle.views.specs.Sounds.{Sound, Place, Shown, root-only}
+use Rattle.views.specs.Sounds.{Sound, Place, Shown}
 use Rattle.kept.specs.Firm.{Base, base-of}
 use Rattle.kept.specs.MessageFacts.{message-says, table-agrees}
 use Rattle.kept.specs.ReceiveJoins.{after-E, shown-E}
-use Rattle.kept.specs.ReceiveLive.{mends}
+use Rattle.kept.specs.ReceiveLive.{nonroot-dead, mends}
 use Rattle.cluster.specs.Cluster.{State, stateOf, stated, placed, madeLive, mended, mendedAll, receivedStates, Call, creates, unlinks, renames, removes, spreads, lists, pushes, receives, hears, counts, draws}
 use Rattle.cluster.specs.Accepted.{answerIn, Creates, creates-is, Kills, unlinks-is, removes-is, Renames, renames-is, Takes, takes-is, receives-is}
 
@@ -96,11 +95,6 @@ record Drawn (t u : Table) (h : Head) (x : State) : Type 0 where
   live : x .live ≡ 1
   stands : Stands u x
 
--- what is dead is not the root
-nonroot : (t : Table) → Base t → (d : ℕ) (h : Head) → headOf t d ≡ some h → isDead (headOf t d) ≡ true → h .id ≡ 0 → ⊥
-nonroot t b d h e k z =
-    no-both (isDead (headOf t d)) k (ap isDead (e ∙ ap some (root-only t (b .root-first) d h e z)))
-
 live-drawn : (k now d : ℕ) (t : Table) (h : Head) → Base t → headOf t d ≡ some h → isDead (headOf t d) ≡ true →
     (x : State) →
     In x (madeLive k now d t) → Drawn t (makeLive k now d t) h x
@@ -111,7 +105,7 @@ live-drawn (suc k) now d t h b e a x m =
     (λ p q. live-drawn k now (directoryOf (headOf t d)) t p b q)
   where
     z : h .id ≡ 0 → ⊥
-    z = nonroot t b d h e a
+    z = nonroot-dead t b d h e a
 
     up : Place t h
     up = b .placed d h e z

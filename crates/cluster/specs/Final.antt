@@ -191,6 +191,13 @@ module _ (c : World) (L : List State) (k : Inv c L) (q : Silent c) where
 
   -- ---- "and show the state with the greatest stamp ever issued for it"
 
+  -- its issuer holds it
+  there : (x : State) → In x L → (i : ℕ) × (h : Head) × Has i (x .id) h
+  there x m =
+      let s : ℕ = issuer (x .stamp) in
+      let g = held (headOf (c .tab s) (x .id)) (omega (arith, k .k6 .remembers x m .held)) in
+      (s, g .0, (k .k3 .node x m, g .1))
+
   greatest : (i f : ℕ) (h : Head) → Has i f h → (x : State) → In x L → x .id ≡ f → x .stamp ≤ h .stamp
   greatest i f h a x m e =
       let s : ℕ = issuer (x .stamp) in
@@ -293,6 +300,8 @@ module _ (c : World) (L : List State) (k : Inv c L) (q : Silent c) where
         found = entries-of;
         shows = items;
         greatest = greatest;
+        once = k .k2 .one;
+        there = there;
         shown = λ i d p a f n. (shown-lives i d p a f n, lives-shown i d p a f n);
         path = λ i f h a l. paths (h .depth) i f h a l (omega arith);
       }

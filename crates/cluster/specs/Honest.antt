@@ -1,6 +1,5 @@
 -- "a push read back gives the heads and entries that its writer held": the push that a sound table writes is in range
--- and
--- hangs together, so every node of the same N reads it as it is. Assumes nothing.
+-- and hangs together, so every node of the same N reads it as it is. Assumes nothing.
 use mathlib.Core.Path.{_≡_, refl, ap, sym, subst, _∙_}
 use mathlib.Core.Logic.{_⊎_, inl, inr}
 use mathlib.Core.Bool.{Bool, true, false, _&&_, _||_, not, cond}

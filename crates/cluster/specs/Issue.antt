@@ -1,6 +1,5 @@
 -- A new stamp is drawn, the head put, its entries set: truth, clocks and memory are kept, with one more state issued.
--- So
--- for making a directory live, and for (f). Assumes nothing.
+-- So for making a directory live, and for (f). Assumes nothing.
 use mathlib.Core.Path.{_≡_, refl, ap, sym, subst, _∙_}
 use mathlib.Core.Logic.{_⊎_, inl, inr}
 use mathlib.Core.Bool.{Bool, true, false, _&&_, cond}

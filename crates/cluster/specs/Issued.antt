@@ -1,6 +1,5 @@
 -- "ever issued": the states in a cluster's list are those that stood in some node's table at an earlier point of the
--- run,
--- the root's apart, which has no issued stamp. Assumes nothing.
+-- run, the root's apart, which has no issued stamp. Assumes nothing.
 use mathlib.Core.Path.{_≡_, refl, ap, sym, subst, _∙_}
 use mathlib.Core.Logic.{_⊎_, inl, inr}
 use mathlib.Core.Bool.{Bool, true, cond}

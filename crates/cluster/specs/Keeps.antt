@@ -1,6 +1,5 @@
 -- One accepted call of one node keeps K1 to K7: by what the call does to its own table, and nothing else of it. Each
--- call
--- shows `Done`; a changed call shows it again, and nothing here changes. Assumes nothing.
+-- call shows `Done`; a changed call shows it again, and nothing here changes. Assumes nothing.
 use mathlib.Core.Path.{_≡_, refl, sym, subst, _∙_}
 use mathlib.Core.Logic.{_⊎_, inl, inr}
 use mathlib.Core.Bool.{true, false, cond}

@@ -1,6 +1,5 @@
 -- From bytes to tables and back: what holds of every cluster that can be reached, and that each call of a node keeps
--- it.
--- Assumes nothing.
+-- it. Assumes nothing.
 use mathlib.Core.Path.{_≡_, refl, ap, sym, subst, _∙_}
 use mathlib.Core.Logic.{_⊎_, inl, inr}
 use mathlib.Core.Bool.{Bool, true, false, not, cond}

@@ -2,16 +2,15 @@
 -- nothing.
 use mathlib.Core.Path.{_≡_, refl, ap, sym, subst, _∙_}
 use mathlib.Core.Logic.{_⊎_, inl, inr}
-use mathlib.Core.Bool.{Bool, true, false, _||_, not, cond}
+use mathlib.Core.Bool.{Bool, true, false, not, cond}
 use mathlib.Core.Option.{Option, some, none}
 use mathlib.Core.List.{List, [], _∷_, _++_, List·Memᴰ·head, List·Memᴰ·tail, List·Memᴰ·append-cases, Memᴰ·append-left, Memᴰ·append-right}
 use Prim.Native.Nat.{ℕ, suc, _≤_}
 use native.Mathlib.Omega.{arith}
 use lib.Dec.{eqb, ltb}
-use borrow.Author.Tests.{ltb-true, ltb-false}
-use Rattle.numbers.specs.Nodes.{has, join, single}
+use borrow.Author.Tests.{ltb-true}
+use Rattle.numbers.specs.Nodes.{join}
 use Rattle.numbers.specs.Ids.{issuer}
-use Rattle.numbers.specs.Laws.{has-join}
 use Rattle.records.specs.declared.head.Head.{Head}
 use Rattle.slots.specs.declared.replica.Replica.{Replica}
 use Rattle.slots.specs.declared.listed.Listed.{Listed}
@@ -22,10 +21,11 @@ use Rattle.document.specs.Messages.{Push}
 use Rattle.document.specs.Receive.{stepA, withOwn, makeMissing, stepB, merged, stepC, joinedIn, setIfMade, setAbove, setIfTaken, setIn, joins, stepF, taken, received, ackFor}
 use Rattle.views.specs.Lists.{In, same?}
 use Rattle.views.specs.Puts.{head-id, head-put-same, head-put-other, put-cases}
-use Rattle.views.specs.Sets.{has-join-left}
 use Rattle.views.specs.Joins.{join-all-same}
+use Rattle.views.specs.Takes.{merged-rank, merged-hold, merged-id, merged-new, merged-old, merged-live}
+use Rattle.kept.specs.ReceiveAbove.{above-held}
 use Rattle.cluster.specs.Cluster.{Node, State, stateOf, mendedAll, receivedStates}
-use Rattle.cluster.specs.Ranks.{rankO, rank, mark, Leq, leq-trans}
+use Rattle.cluster.specs.Ranks.{rankO, rank, mark, Leq, leq-trans, held}
 use Rattle.cluster.specs.Invariants.{World, True, AllTrue, TrueTable, TruePush, Remembers, Inv}
 use Rattle.cluster.specs.Adds.{Adds, Up, up-trans, up-joins, up-stepA, seen-stepA, up-stepB, up-merged}
 use Rattle.cluster.specs.Settle.{Nobody, covers-settle}
@@ -106,55 +106,8 @@ true-taken L t (some o) h e r z i = go (ltb (o .stamp) (h .stamp)) refl
 
 -- ---- what is held stays as it is, but for the first
 
-missing-keeps : (o : Option Head) (h : Head) (t : Table) (g : ℕ) → headOf t (h .id) ≡ o → 1 ≤ rank t g →
-    headOf (makeMissing o h t) g ≡ headOf t g
-missing-keeps none h t g e r =
-    head-put-other (withOwn h t) (t .replicas) g (λ q. omega (arith, ap rankO e, ap (λ (m : ℕ). rank t m) q))
-missing-keeps (some o) h t g e r = refl
-
 stepB-keeps : (hs : List Head) (t : Table) (g : ℕ) → 1 ≤ rank t g → headOf (stepB hs t) g ≡ headOf t g
-unfolding stepB
-stepB-keeps [] t g r = refl
-stepB-keeps (h ∷ hs) t g r =
-    let q = stepB-keeps hs t g r in
-    missing-keeps (headOf (stepB hs t) (h .id)) h (stepB hs t) g refl (omega (arith, ap rankO q)) ∙ q
-
-merged-id : (o : Option Head) (h : Head) (t : Table) → headOf t (h .id) ≡ o → merged o h t .id ≡ h .id
-merged-id none h t e = refl
-merged-id (some o) h t e = go (ltb (o .stamp) (h .stamp))
-  where
-    go : (b : Bool) → withHolders (cond b h o) (join (o .holders) (h .holders)) .id ≡ h .id
-    go true = refl
-    go false = head-id (h .id) (t .replicas) o e
-
--- ---- the message is covered
-
-merged-rank : (o : Option Head) (h : Head) (t : Table) → h .stamp ≤ merged o h t .stamp
-merged-rank none h t = omega arith
-merged-rank (some o) h t = go (ltb (o .stamp) (h .stamp)) refl
-  where
-    go : (b : Bool) → ltb (o .stamp) (h .stamp) ≡ b → h .stamp ≤ cond b h o .stamp
-    go true p = omega arith
-    go false p = omega (arith, ltb-false)
-
-or-right : (a b : Bool) → b ≡ true → (a || b) ≡ true
-or-right true b p = refl
-or-right false b p = p
-
-merged-hold : (o : Option Head) (h : Head) (t : Table) (j : ℕ) → has (h .holders) j ≡ true →
-    has (merged o h t .holders) j ≡ true
-merged-hold none h t j p = has-join-left (h .holders) (single (t .own)) j p
-merged-hold (some o) h t j p =
-    rw (has-join (o .holders) (h .holders) j) (or-right (has (o .holders) j) (has (h .holders) j) p)
-
-merged-new : (o h : Head) (t : Table) → ltb (o .stamp) (h .stamp) ≡ true → merged (some o) h t .stamp ≡ h .stamp
-merged-new o h t p = ap (λ (b : Bool). cond b h o .stamp) p
-
-merged-old : (o h : Head) (t : Table) → ltb (o .stamp) (h .stamp) ≡ false → merged (some o) h t .stamp ≡ o .stamp
-merged-old o h t p = ap (λ (b : Bool). cond b h o .stamp) p
-
-merged-live : (o h : Head) (t : Table) → ltb (o .stamp) (h .stamp) ≡ false → merged (some o) h t .live ≡ o .live
-merged-live o h t p = ap (λ (b : Bool). cond b h o .live) p
+stepB-keeps hs t g r = let o = held (headOf t g) r in above-held hs t g (o .0) (o .1) ∙ sym (o .1)
 
 -- ---- (a) to (e)
 
@@ -207,13 +160,13 @@ module _ (L : List State) (p : Push) (t : Table) (r : Ready L t) (tp : TruePush 
   E-first =
       ap (λ (l : List Replica). headOf? (find f l)) E-replicas
       ∙ ap (λ (m : ℕ). headOf? (find m (putHead (merged (headOf B f) F B) (B .replicas))))
-      (sym (merged-id (headOf B f) F B refl))
+      (sym (merged-id (headOf B f) F B (head-id f (B .replicas))))
       ∙ head-put-same (merged (headOf B f) F B) (B .replicas)
 
   E-other : (g : ℕ) → (g ≡ f → ⊥) → 1 ≤ rank t g → headOf E g ≡ headOf t g
   E-other g ne q =
       ap (λ (l : List Replica). headOf? (find g l)) E-replicas
-      ∙ head-put-other (merged (headOf B f) F B) (B .replicas) g (λ z. ne (z ∙ merged-id (headOf B f) F B refl))
+      ∙ head-put-other (merged (headOf B f) F B) (B .replicas) g (λ z. ne (z ∙ merged-id (headOf B f) F B (head-id f (B .replicas))))
       ∙ B-keeps g q
 
   true-A : TrueTable L (stepA p t)

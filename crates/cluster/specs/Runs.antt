@@ -1,8 +1,6 @@
 -- An instance: the first run of document 01 as a cluster of bytes. Two nodes start, move one file to two places while
--- the
--- link is down, tell each other until nothing is pending, and so demand 3 holds of what they reach. The calls are
--- computed
--- on tables, and what stands there in bytes follows. Assumes nothing.
+-- the link is down, tell each other until nothing is pending, and so demand 3 holds of what they reach. The calls are
+-- computed on tables, and what stands there in bytes follows. Assumes nothing.
 use mathlib.Core.Path.{_≡_, refl, ap, sym, subst, _∙_}
 use mathlib.Core.Bool.{Bool, true, false, cond}
 use mathlib.Core.Option.{Option, some, none}
@@ -243,8 +241,7 @@ module _ (lent : ℕ → List ℕ) (sized : (i : ℕ) → length (lent i) ≡ ta
       awake (suc (suc (suc i))) ni = absurd (omega (arith, ni .1))
 
 -- ---- "Run: N 2, nodes hold all. Node 1 makes /alice (now 1) and /foo (2); node 2, once quiet, /bob (3). Quiet again;
--- at 12
--- node 1 moves foo to /alice/foo1 and node 2 to /bob/foo2."
+-- at 12 node 1 moves foo to /alice/foo1 and node 2 to /bob/foo2."
 
 abbrev alice : ℕ
 alice = 16777217

@@ -1,5 +1,5 @@
--- Both runs of document 01, computed: the definitions give what the document says, by `refl`. Messages go through their
--- bytes; tables are taken as tables. Assumes nothing.
+-- Both runs of document 01, computed: the definitions give what the document says, by `refl`; then two more, for what the
+-- two do not show. Messages go through their bytes; tables are taken as tables. Assumes nothing.
 use mathlib.Core.Path.{_≡_, refl}
 use mathlib.Core.Option.{Option, some, none}
 use mathlib.Core.List.{List, [], _∷_}
@@ -154,3 +154,48 @@ record SecondRun (parted told mended : Two) : Type 0 where
 second-run : SecondRun parted told mended
 unfolding mended told parted both now! wrote tell turned tellAll settled chunk le bytesOf sameBytes every sameName isText isName nameFrom has single join without members isMade isId isStamp isVersion headBytes headOf headInRange headFits isRoot isOrdinary entryBytes entryOf entryInRange entryFits ackBytes ackOf ackInRange ackFits pushBytes pushOf pushInRange pushFits fresh first entriesOf rows slotsFrom everySlot distinct joinInto putHead setBy joinAll oddAll issue sameEntries settleAll settle relive makeLive tooMany pastEnd messageBytes messageOf messageInRange chained hangsTogether readPush readAck chainUp pushFrom highest stepA stepB stepC setAbove stepF taken received odd judged nameTaken anyShown liveChild created createIn killed renamed renameIn removeIn pushIn takeIn receiveIn clear clearIn pendingSum
 second-run = record { made = refl; removed = refl; lives = refl; quiet = refl; one = refl; two = refl; one-shows = refl; two-shows = refl }
+
+-- ---- a late acknowledgement: "the change made since the push is then never told". /d is on both; node 1 makes /d/f for
+-- itself, which changes /d's entries alone, and then hears once more that node 2 has /d's first version.
+
+unfoldable changed : Table
+changed = now! (createIn 5 d 1 (102 ∷ []) 0 (both .one)) (both .one)
+
+unfoldable heard : Table
+heard =
+    let made = now! (createIn 1 0 2 (100 ∷ []) 3 (fresh 1 2)) (fresh 1 2) in
+    let late = wrote (receiveIn 1 (wrote (pushIn d 2 1640 made)) 16 (fresh 2 2)) in
+    now! (ifAck (readAck 2 late) (clearIn changed)) changed
+
+unfoldable telling : Two
+telling = settled 2 5 (record { one = heard; two = both .two })
+
+record LateRun (heard : Table) (telling : Two) : Type 0 where
+  pending : pendingSum (heard .replicas) ≡ 1
+  quiet : pendingSum (telling .one .replicas) + pendingSum (telling .two .replicas) ≡ 0
+  one : flagOf (entry (telling .one) d (d + 1) (nameFrom (102 ∷ []))) ≡ 1281 ∷ 1 ∷ []
+  two : flagOf (entry (telling .two) d (d + 1) (nameFrom (102 ∷ []))) ≡ 1281 ∷ 1 ∷ []
+
+late-run : LateRun heard telling
+unfolding telling heard changed both now! wrote tell turned tellAll settled chunk le bytesOf sameBytes every sameName isText isName nameFrom has single join without members isMade isId isStamp isVersion headBytes headOf headInRange headFits isRoot isOrdinary entryBytes entryOf entryInRange entryFits ackBytes ackOf ackInRange ackFits pushBytes pushOf pushInRange pushFits fresh first entriesOf rows slotsFrom everySlot distinct joinInto putHead setBy joinAll oddAll issue sameEntries settleAll settle relive makeLive tooMany pastEnd messageBytes messageOf messageInRange chained hangsTogether readPush readAck chainUp pushFrom highest stepA stepB stepC setAbove stepF taken received odd judged nameTaken anyShown liveChild created createIn killed renamed renameIn removeIn pushIn takeIn receiveIn clear clearIn pendingSum
+late-run = record { pending = refl; quiet = refl; one = refl; two = refl }
+
+-- ---- an ancestor's holders: node 1 makes /d for itself and /d/f for node 2 too, which so comes to hold /d, and says so
+
+unfoldable shared : Two
+shared =
+    let made = now! (createIn 1 0 2 (100 ∷ []) 0 (fresh 1 2)) (fresh 1 2) in
+    settled 3 2 (record { one = now! (createIn 2 d 1 (102 ∷ []) 2 made) made; two = fresh 2 2 })
+
+abbrev holdersOf : Option Head → ℕ
+holdersOf none = 0
+holdersOf (some h) = h .holders
+
+record SharedRun (s : Two) : Type 0 where
+  quiet : pendingSum (s .one .replicas) + pendingSum (s .two .replicas) ≡ 0
+  one : holdersOf (head (s .one) d) ≡ 3
+  two : holdersOf (head (s .two) d) ≡ 3
+
+shared-run : SharedRun shared
+unfolding shared now! wrote tell turned tellAll settled chunk le bytesOf sameBytes every sameName isText isName nameFrom has single join without members isMade isId isStamp isVersion headBytes headOf headInRange headFits isRoot isOrdinary entryBytes entryOf entryInRange entryFits ackBytes ackOf ackInRange ackFits pushBytes pushOf pushInRange pushFits fresh first entriesOf rows slotsFrom everySlot distinct joinInto putHead setBy joinAll oddAll issue sameEntries settleAll settle relive makeLive tooMany pastEnd messageBytes messageOf messageInRange chained hangsTogether readPush readAck chainUp pushFrom highest stepA stepB stepC setAbove stepF taken received odd judged nameTaken anyShown liveChild created createIn killed renamed renameIn removeIn pushIn takeIn receiveIn clear clearIn pendingSum
+shared-run = record { quiet = refl; one = refl; two = refl }

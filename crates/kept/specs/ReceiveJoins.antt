@@ -27,6 +27,7 @@ use Rattle.views.specs.Lists.{In, not-none}
 use Rattle.views.specs.Puts.{put-cases, put-here, head-id}
 use Rattle.views.specs.Joins.{join-all-after, join-all-same}
 use Rattle.views.specs.Issues.{set-place, set-cases}
+use Rattle.views.specs.Takes.{merged-id}
 use Rattle.views.specs.Sounds.{Place, Parent, Entered, Shown, root-held, root-only}
 use Rattle.kept.specs.MessageFacts.{Chain, HeadAgrees, MessageSays, TableAgrees, root-fits}
 use Rattle.kept.specs.Firm.{Base, NewEntry, base-join, place-parent}
@@ -106,20 +107,15 @@ module _ (p : Push) (t : Table) (b : Base t) (m : MessageSays (t .nodes) p) (a :
   place-C x u = place-put _ B (good-merged p t b m a (headOf B (F .id)) refl .stays) x u
 
   -- the pushed replica: as made, as taken, or as it was
-  pub merged-id : (o : Option Head) → headOf t (F .id) ≡ o → merged o F B .id ≡ F .id
-  merged-id none e = refl
-  merged-id (some o) e = go (ltb (o .stamp) (F .stamp))
-    where
-      go : (x : Bool) → cond x F o .id ≡ F .id
-      go true = refl
-      go false = head-id (F .id) (t .replicas) o e
+  pub first-id : merged (headOf t (F .id)) F B .id ≡ F .id
+  first-id = merged-id (headOf t (F .id)) F B (head-id (F .id) (t .replicas))
 
   pub first-C : headOf C (F .id) ≡ some (merged (headOf t (F .id)) F B)
   unfolding taken stepC
   first-C =
       let h = merged (headOf t (F .id)) F B in
       ap (λ (o : Option Head). headOf (put (merged o F B) B) (F .id)) (first-B p t b m a)
-      ∙ put-here h (B .replicas) (F .id) (sym (merged-id (headOf t (F .id)) refl))
+      ∙ put-here h (B .replicas) (F .id) (sym first-id)
 
   -- what is made or taken is not the root
   nonroot-made : headOf t (F .id) ≡ none → F .id ≡ 0 → ⊥
@@ -223,7 +219,7 @@ module _ (p : Push) (t : Table) (b : Base t) (m : MessageSays (t .nodes) p) (a :
       go true l j = fine-set e (some o) q (nonroot-taken o q (ltb-true (o .stamp) (F .stamp) l)) j
       go false l j = elim j [ ]
 
-  fine-joins : (e : Listed) → In e (joins p t) → NewEntry e C
+  pub fine-joins : (e : Listed) → In e (joins p t) → NewEntry e C
   fine-joins e i = go (List·Memᴰ·append-cases (joinedIn p) i)
     where
       set : In e (setAbove t (p .above)) ⊎ In e (setIfTaken (headOf t (F .id)) F) → NewEntry e C
@@ -294,7 +290,7 @@ module _ (p : Push) (t : Table) (b : Base t) (m : MessageSays (t .nodes) p) (a :
 
         pushed : x ≡ merged (headOf t (F .id)) F B → Entered E x
         pushed q =
-            let y : F .id ≡ 0 → ⊥ = λ k. z (ap (λ (v : Head). v .id) q ∙ merged-id (headOf t (F .id)) refl ∙ k) in
+            let y : F .id ≡ 0 → ⊥ = λ k. z (ap (λ (v : Head). v .id) q ∙ first-id ∙ k) in
             subst (Entered E) (sym q) (shown-first (headOf t (F .id)) refl y (ap isLive (sym q) ∙ l))
 
         other : (headOf t f ≡ some x) ⊎ Made A (p .above) x → Entered E x

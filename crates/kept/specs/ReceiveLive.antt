@@ -157,7 +157,7 @@ lit-relive now t u d h e z a up (some y) q =
     }
 
 -- what is dead is not the root
-nonroot-dead : (t : Table) → Base t → (d : ℕ) (h : Head) → headOf t d ≡ some h → isDead (headOf t d) ≡ true →
+pub nonroot-dead : (t : Table) → Base t → (d : ℕ) (h : Head) → headOf t d ≡ some h → isDead (headOf t d) ≡ true →
     h .id ≡ 0 → ⊥
 nonroot-dead t b d h e k z =
     no-both (isDead (headOf t d)) k (ap isDead (e ∙ ap some (root-only t (b .root-first) d h e z)))

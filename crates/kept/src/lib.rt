@@ -1,5 +1,6 @@
-// Soundness is kept, as laws: every call but receive leaves a sound table sound. All of it stands in specs/, and there is
-// no code here but one function, since a crate has one.
+// Soundness is kept, as laws: every call that is accepted leaves a sound table sound, whatever it was given. Kept has the
+// calls but receive, ReceiveSound has receive. All of it stands in specs/, and there is no code here but one function,
+// since a crate has one.
 ghost use mathlib.Core.Path.{_≡_};
 ghost use Rattle.document.specs.Tables.{entrySlots};
 

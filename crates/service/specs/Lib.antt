@@ -3,3 +3,4 @@ pub mod Listing
 pub mod Pending
 pub mod Starting
 pub mod Pushing
+pub mod Receiving

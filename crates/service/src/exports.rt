@@ -2,7 +2,7 @@
 ghost use mathlib.Core.Path.{_≡_};
 ghost use lib.ListN.{length};
 ghost use Rattle.document.specs.Outcomes.{outputAfter, tableAfter};
-ghost use Rattle.document.specs.Calls.{acknowledged, create, list, pending, push, remove, rename, spread, start, unlink};
+ghost use Rattle.document.specs.Calls.{acknowledged, create, list, pending, push, receive, remove, rename, spread, start, unlink};
 ghost use Rattle.answers.specs.Answers.{packed};
 
 #[no_mangle]
@@ -41,7 +41,14 @@ pub extern "C" fn rumbezalo_acknowledged(table: &mut [u8], message: &[u8]) -> u6
 }
 
 #[no_mangle]
-pub extern "C" fn rumbezalo_create(table: &mut [u8], time: u64, directory: u64, kind: u64, name: &[u8], set: u64) -> u64
+pub extern "C" fn rumbezalo_create(
+    table: &mut [u8],
+    time: u64,
+    directory: u64,
+    kind: u64,
+    name: &[u8],
+    set: u64,
+) -> u64
     ensures { λ r.
         ⌜ (r ≡ packed (create (now (table .entry)) time directory kind (now (name .entry)) set))
         × (now (table .exit)
@@ -61,7 +68,13 @@ pub extern "C" fn rumbezalo_unlink(table: &mut [u8], time: u64, id: u64) -> u64
 }
 
 #[no_mangle]
-pub extern "C" fn rumbezalo_rename(table: &mut [u8], time: u64, id: u64, directory: u64, name: &[u8]) -> u64
+pub extern "C" fn rumbezalo_rename(
+    table: &mut [u8],
+    time: u64,
+    id: u64,
+    directory: u64,
+    name: &[u8],
+) -> u64
     ensures { λ r.
         ⌜ (r ≡ packed (rename (now (table .entry)) time id directory (now (name .entry))))
         × (now (table .exit)
@@ -98,4 +111,21 @@ pub extern "C" fn rumbezalo_push(table: &[u8], id: u64, node: u64, out: &mut [u8
         ≡ outputAfter (push (now (table .entry)) id node (length (now (out .entry)))) (now (out .entry))) ⌝ }
 {
     answers::pack(crate::push::push(table, id, node, out))
+}
+
+#[no_mangle]
+pub extern "C" fn rumbezalo_receive(
+    table: &mut [u8],
+    time: u64,
+    message: &[u8],
+    out: &mut [u8],
+) -> u64
+    ensures { λ r.
+        ⌜ (r ≡ packed (receive (now (table .entry)) time (now (message .entry)) (length (now (out .entry)))))
+        × (now (table .exit)
+        ≡ tableAfter (receive (now (table .entry)) time (now (message .entry)) (length (now (out .entry)))) (now (table .entry)))
+        × (now (out .exit)
+        ≡ outputAfter (receive (now (table .entry)) time (now (message .entry)) (length (now (out .entry)))) (now (out .entry))) ⌝ }
+{
+    answers::pack(crate::receive::receive(table, time, message, out))
 }

@@ -6,5 +6,6 @@ pub mod exports;
 pub mod list;
 pub mod pending;
 pub mod push;
+pub mod receive;
 pub mod start;
 pub mod tree;

@@ -8,7 +8,14 @@ ghost use Rattle.answers.specs.Answers.{answerOf};
 
 // Creates a file (1) or a directory (2) with that name in the directory, for the nodes of the set; the
 // value is its id.
-pub fn create(table: &mut [u8], time: u64, directory: u64, kind: u64, name: &[u8], set: u64) -> Answer
+pub fn create(
+    table: &mut [u8],
+    time: u64,
+    directory: u64,
+    kind: u64,
+    name: &[u8],
+    set: u64,
+) -> Answer
     ensures { λ r. ⌜ (r ≡ answerOf (create (now (table .entry)) time directory kind (now (name .entry)) set))
         × (now (table .exit)
         ≡ tableAfter (create (now (table .entry)) time directory kind (now (name .entry)) set) (now (table .entry))) ⌝ }

@@ -203,12 +203,11 @@ module _ {l : List ℕ} (k : Stands l) (b : Bytes l) (x : Listed) (f : ListedFit
       × (joinInto x (tableOf l .entries) ≡ set (tableOf l .entries) i (newer x (entryIn l i)))
   unfolding tableOf
   found i e =
-      let p = found-slot (sameKey x) (entryIn l) 0 (entriesUsed l) i e in
-      (
+      let p = found-slot (sameKey x) (entryIn l) 0 (entriesUsed l) i e in (
         omega (arith, p .1),
         ap (λ (o : Option Listed). isListed (entryOf? o) || isRoom (x .directory) (tableOf l)) (sym (p .2)),
         join-found x (entryIn l) 0 (entriesUsed l) i e
-        ∙ ap (λ (j : ℕ). set (slotsFrom (entryIn l) 0 (entriesUsed l)) j (newer x (entryIn l i))) (sub-zero i),
+            ∙ ap (λ (j : ℕ). set (slotsFrom (entryIn l) 0 (entriesUsed l)) j (newer x (entryIn l i))) (sub-zero i),
       )
 
   -- the slot is set to what it has
@@ -283,14 +282,13 @@ module _ {l : List ℕ} (k : Stands l) (b : Bytes l) (x : Listed) (f : ListedFit
       let es = tableOf l .entries in
       let free = ltb-true (length es) 256 (and-true (ltb (length es) 256) _ r .0) in
       let grown = join-none x es (absent e) in
-      let size = ap length grown ∙ length-append es (x ∷ []) in
-      (
+      let size = ap length grown ∙ length-append es (x ∷ []) in (
         omega (arith, free, entries-held l),
         wide-is (wide-join (omega (arith, size, free)))
-        (ap (λ (z : List ℕ). splice z (entrySlot m) (listedBytes x)) (k .bytes)
-        ∙ ap (λ (n : ℕ). splice (tableBytes (tableOf l)) (entrySlot n) (listedBytes x)) (u ∙ sym (entries-held l))
-        ∙ listed-added (tableOf l) x (omega (arith, replicas-held l, few-replicas l)) free
-        ∙ ap (λ (z : List Listed). tableBytes (withEntries (tableOf l) z)) (sym grown)),
+            (ap (λ (z : List ℕ). splice z (entrySlot m) (listedBytes x)) (k .bytes)
+            ∙ ap (λ (n : ℕ). splice (tableBytes (tableOf l)) (entrySlot n) (listedBytes x)) (u ∙ sym (entries-held l))
+            ∙ listed-added (tableOf l) x (omega (arith, replicas-held l, few-replicas l)) free
+            ∙ ap (λ (z : List Listed). tableBytes (withEntries (tableOf l) z)) (sym grown)),
       )
 
 -- ---- room, as the code counts it

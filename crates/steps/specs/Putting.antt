@@ -81,13 +81,12 @@ module _ {l : List ℕ} (k : Stands l) (b : Bytes l) (h : Head) (f : HeadFit h) 
   put-at i e =
       let found = found-slot (hasId (h .id)) (replicaIn l) 0 (replicasUsed l) i e in
       let where-to = put-found h (replicaIn l) 0 (replicasUsed l) i e ∙ ap (λ (j : ℕ). set (slotsFrom (replicaIn l) 0 (replicasUsed l)) j (renewed h (replicaIn l i))) (sub-zero i) in
-      let size = ap length where-to ∙ length-set (tableOf l .replicas) i (renewed h (replicaIn l i)) ∙ replicas-held l in
-      (
+      let size = ap length where-to ∙ length-set (tableOf l .replicas) i (renewed h (replicaIn l i)) ∙ replicas-held l in (
         ap (λ (o : Option Replica). isHeld (headOf? o) || ltb (length (tableOf l .replicas)) 64) (sym (found .2)),
         omega (arith, found .1, few-replicas l),
         wide-is (wide-put (omega (arith, size, few-replicas l)))
-        (head-rewritten k i h (omega (arith, found .1))
-        ∙ ap (λ (rs : List Replica). tableBytes (withReplicas (tableOf l) rs)) (sym where-to)),
+            (head-rewritten k i h (omega (arith, found .1))
+            ∙ ap (λ (rs : List Replica). tableBytes (withReplicas (tableOf l) rs)) (sym where-to)),
       )
 
   -- in the next slot
@@ -110,12 +109,11 @@ module _ {l : List ℕ} (k : Stands l) (b : Bytes l) (h : Head) (f : HeadFit h) 
   put-next m u e free =
       let rs = tableOf l .replicas in
       let grown = put-none h rs (not-held e) in
-      let size = ap length grown ∙ length-append rs (newReplica h ∷ []) in
-      (
+      let size = ap length grown ∙ length-append rs (newReplica h ∷ []) in (
         sym (free-slot e ∙ lt-ltb (replicasUsed l) 64 (omega arith)),
         wide-is (wide-put (omega (arith, size, replicas-held l)))
-        (ap (λ (z : List ℕ). splice z (replicaSlot m) (replicaBytes (newReplica h))) (k .bytes)
-        ∙ ap (λ (n : ℕ). splice (tableBytes (tableOf l)) (replicaSlot n) (replicaBytes (newReplica h))) (u ∙ sym (replicas-held l))
-        ∙ replica-added (tableOf l) (newReplica h) (omega (arith, replicas-held l))
-        ∙ ap (λ (z : List Replica). tableBytes (withReplicas (tableOf l) z)) (sym grown)),
+            (ap (λ (z : List ℕ). splice z (replicaSlot m) (replicaBytes (newReplica h))) (k .bytes)
+            ∙ ap (λ (n : ℕ). splice (tableBytes (tableOf l)) (replicaSlot n) (replicaBytes (newReplica h))) (u ∙ sym (replicas-held l))
+            ∙ replica-added (tableOf l) (newReplica h) (omega (arith, replicas-held l))
+            ∙ ap (λ (z : List Replica). tableBytes (withReplicas (tableOf l) z)) (sym grown)),
       )

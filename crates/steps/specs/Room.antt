@@ -190,8 +190,11 @@ module _ (x : Listed) (t : Table) (k : Room t) where
         few-entries = omega (arith, k .few-entries, join-size x (t .entries) ∙ ap (λ (o : Option Listed). length (t .entries) + extra o) e);
         crowds =
             each-map _ _
-            (λ r p. omega (arith, p,
-            crowd-join x (t .entries) (r .head .id) ∙ ap (λ (o : Option Listed). crowd t (r .head .id) + oneMore x o (r .head .id)) e))
+            (λ r p. omega (
+              arith,
+              p,
+              crowd-join x (t .entries) (r .head .id) ∙ ap (λ (o : Option Listed). crowd t (r .head .id) + oneMore x o (r .head .id)) e,
+            ))
             (t .replicas) (k .crowds);
       }
   room-there none e h =
@@ -246,7 +249,7 @@ module _ (x : Listed) (t : Table) (k : Room t) where
 
 -- ---- a head that is put
 
-put-size : (h : Head) (rs : List Replica) → length rs ≤ length (putHead h rs)
+pub put-size : (h : Head) (rs : List Replica) → length rs ≤ length (putHead h rs)
 unfolding putHead
 put-size h [] = omega arith
 put-size h (r ∷ rs) = go (eqb (r .head .id) (h .id)) (put-size h rs)
@@ -290,8 +293,11 @@ module _ (h : Head) (t : Table) where
           length (putHead h (t .replicas)) ≤ 64
       few (some r) e s = omega (arith, k .few-replicas, put-same h (t .replicas) r e)
       few none e s =
-          omega (arith, ltb-true (length (t .replicas)) 64 s,
-          ap length (put-none h (t .replicas) e) ∙ length-append (t .replicas) (newReplica h ∷ []))
+          omega (
+            arith,
+            ltb-true (length (t .replicas)) 64 s,
+            ap length (put-none h (t .replicas) e) ∙ length-append (t .replicas) (newReplica h ∷ []),
+          )
 
   pub many-put : hasSlot (h .id) t ≡ false → tooMany (put h t) ≡ true
   many-put s = not-room (put h t) (λ k. full k (find (h .id) (t .replicas)) refl s)
@@ -300,8 +306,12 @@ module _ (h : Head) (t : Table) where
           (isHeld (headOf? o) || ltb (length (t .replicas)) 64) ≡ false → ⊥
       full k (some r) e s = never (sym s)
       full k none e s =
-          omega (arith, ltb-false (length (t .replicas)) 64 s, k .few-replicas,
-          ap length (put-none h (t .replicas) e) ∙ length-append (t .replicas) (newReplica h ∷ []))
+          omega (
+            arith,
+            ltb-false (length (t .replicas)) 64 s,
+            k .few-replicas,
+            ap length (put-none h (t .replicas) e) ∙ length-append (t .replicas) (newReplica h ∷ []),
+          )
 
 -- ---- the end of a call changes none of this
 

@@ -296,11 +296,10 @@ module _ {old t : List ℕ} (b : Bytes old) (c : Bytes t) {m k n i : ℕ} (p : C
       (true ≡ ltb (settled was is replica .version) (2 ^ 32))
       × Is t (withReplicas is (set (is .replicas) i (settled was is replica)))
   slot-kept e =
-      let same : settled was is replica ≡ replica = settled-kept was is replica e in
-      (
+      let same : settled was is replica ≡ replica = settled-kept was is replica e in (
         sym (ap (λ (r : Replica). ltb (r .version) (2 ^ 32)) same ∙ lt-ltb _ _ (replica-fits (p .settles .after) c i (p .slot) .version)),
         subst (λ (rs : List Replica). Is t (withReplicas is rs))
-        (sym (ap (set (is .replicas) i) same ∙ set-slot t i)) (p .settles .after),
+            (sym (ap (set (is .replicas) i) same ∙ set-slot t i)) (p .settles .after),
       )
 
   -- the last version was given
@@ -320,19 +319,18 @@ module _ {old t : List ℕ} (b : Bytes old) (c : Bytes t) {m k n i : ℕ} (p : C
       let f = replica-fits (p .settles .after) c i (p .slot) in
       let w = wide-of t c (p .settles .after .size) in
       let up : replica .version + 1 < 2 ^ 32 = omega (arith, f .version, v) in
-      let fit : ReplicaFit (settled was is replica) = subst ReplicaFit (sym next) (record { head = f .head; version = up }) in
-      (
+      let fit : ReplicaFit (settled was is replica) = subst ReplicaFit (sym next) (record { head = f .head; version = up }) in (
         sym (ap (λ (r : Replica). ltb (r .version) (2 ^ 32)) next ∙ lt-ltb _ _ up),
         wide-is
-        (record {
-          header = w .header;
-          few-replicas = slot-size;
-          replicas = each-set ReplicaFit (is .replicas) i (settled was is replica) fit (w .replicas);
-          few-entries = w .few-entries;
-          entries = w .entries;
-        })
-        (slot-rewritten (p .settles .after) i (raised (is .own) replica) (p .slot)
-        ∙ ap (λ (r : Replica). tableBytes (withReplicas is (set (is .replicas) i r))) (sym next)),
+            (record {
+              header = w .header;
+              few-replicas = slot-size;
+              replicas = each-set ReplicaFit (is .replicas) i (settled was is replica) fit (w .replicas);
+              few-entries = w .few-entries;
+              entries = w .entries;
+            })
+            (slot-rewritten (p .settles .after) i (raised (is .own) replica) (p .slot)
+            ∙ ap (λ (r : Replica). tableBytes (withReplicas is (set (is .replicas) i r))) (sym next)),
       )
 
 -- ---- all of them, from the first slot on
@@ -457,12 +455,11 @@ module _ {old t : List ℕ} (p : Settles old t) (l : List ℕ) (i : ℕ)
   start = tableOf t
 
   pub turn-used : (replicasUsed l ≡ replicasUsed t) × (entriesUsed l ≡ entriesUsed t)
-  turn-used =
-      (
-        sym (replicas-held l) ∙ ap (λ (u : Table). length (u .replicas)) (k .table)
+  turn-used = (
+    sym (replicas-held l) ∙ ap (λ (u : Table). length (u .replicas)) (k .table)
         ∙ to-size before start i (start .replicas) ∙ replicas-held t,
-        sym (entries-held l) ∙ ap (λ (u : Table). length (u .entries)) (k .table) ∙ entries-held t,
-      )
+    sym (entries-held l) ∙ ap (λ (u : Table). length (u .entries)) (k .table) ∙ entries-held t,
+  )
 
   pub turn-compares : {a b n : ℕ} → a ≡ replicasUsed old → b ≡ entriesUsed old → n ≡ entriesUsed t → i < replicasUsed t →
       Compares old l a b n i
@@ -514,16 +511,15 @@ module _ {old t : List ℕ} (p : Settles old t) (l : List ℕ) (i : ℕ)
       × (numberedTo before start (i + 1) (start .replicas) ≡ true)
   turn-done h e l' q n =
       let low : i < length (start .replicas) = omega (arith, replicas-held t, h) in
-      let one : suc i ≡ i + 1 = omega arith in
-      (
+      let one : suc i ≡ i + 1 = omega arith in (
         subst (λ (u : Table). Is l' u)
-        (ap (λ (u : Table). withReplicas u (set (u .replicas) i (settled before (tableOf l) (replicaIn l i)))) (k .table)
-        ∙ ap (λ (r : Replica). withReplicas start (set (settledTo before start i (start .replicas)) i r)) (turn-settled h)
-        ∙ ap (withReplicas start) (to-suc before start i (start .replicas) low)
-        ∙ ap (λ (j : ℕ). withReplicas start (settledTo before start j (start .replicas))) one)
-        q,
+            (ap (λ (u : Table). withReplicas u (set (u .replicas) i (settled before (tableOf l) (replicaIn l i)))) (k .table)
+            ∙ ap (λ (r : Replica). withReplicas start (set (settledTo before start i (start .replicas)) i r)) (turn-settled h)
+            ∙ ap (withReplicas start) (to-suc before start i (start .replicas) low)
+            ∙ ap (λ (j : ℕ). withReplicas start (settledTo before start j (start .replicas))) one)
+            q,
         ap (λ (j : ℕ). numberedTo before start j (start .replicas)) (sym one)
-        ∙ numbered-suc before start i (start .replicas) low n (ap isNumbered (sym (turn-settled h)) ∙ sym e),
+            ∙ numbered-suc before start i (start .replicas) low n (ap isNumbered (sym (turn-settled h)) ∙ sym e),
       )
 
   -- the end
@@ -531,8 +527,7 @@ module _ {old t : List ℕ} (p : Settles old t) (l : List ℕ) (i : ℕ)
       (true ≡ allNumbered (settle before start)) × Is l (settle before start)
   unfolding settle
   turn-end h n =
-      let all : length (start .replicas) ≤ i = omega (arith, replicas-held t, h) in
-      (
+      let all : length (start .replicas) ≤ i = omega (arith, replicas-held t, h) in (
         sym n ∙ numbered-all before start i (start .replicas) all,
         subst (λ (rs : List Replica). Is l (withReplicas start rs)) (to-all before start i (start .replicas) all) k,
       )

@@ -229,11 +229,10 @@ pub found-head : (l : List ℕ) (m id i : ℕ) → m ≡ replicasUsed l → firs
     (i < m) × (headOf (tableOf l) id ≡ some (headAt l (replicaSlot i)))
 unfolding tableOf
 found-head l m id i u e =
-    let p = found-slot (hasId id) (replicaIn l) 0 m i e in
-    (
+    let p = found-slot (hasId id) (replicaIn l) 0 m i e in (
       omega (arith, p .1),
       ap (λ (n : ℕ). headOf? (find id (slotsFrom (replicaIn l) 0 n))) (sym u) ∙ ap headOf? (p .2)
-      ∙ ap (λ (r : Replica). some (r .head)) (replica-fields l (replicaSlot i)),
+          ∙ ap (λ (r : Replica). some (r .head)) (replica-fields l (replicaSlot i)),
     )
 
 pub not-found : (l : List ℕ) (m id : ℕ) → m ≡ replicasUsed l → firstReplica l m id ≡ Nothing → headOf (tableOf l) id ≡ none

@@ -78,13 +78,13 @@ pub record Ready (l : List ℕ) (h : Head) : Type 0 where
 
 -- ---- the entries
 
-many-all : (es : List Listed) (t : Table) → tooMany t ≡ true → tooMany (joinAll es t) ≡ true
+pub many-all : (es : List Listed) (t : Table) → tooMany t ≡ true → tooMany (joinAll es t) ≡ true
 unfolding joinAll
 many-all [] t e = e
 many-all (x ∷ xs) t e = many-all xs (joined x t) (many-joined x t e)
 
 -- what a Bool is not
-not-swap : (a b : Bool) → a ≡ not b → b ≡ not a
+pub not-swap : (a b : Bool) → a ≡ not b → b ≡ not a
 not-swap a true e = ap not (sym e)
 not-swap a false e = ap not (sym e)
 
@@ -116,10 +116,9 @@ module _ (h old : Head) (t : Table) (k : Room t) (p : Held t (h .directory)) (q 
   unfolding setBy joinAll
   place-struck r s =
       let two : joined (strike h old) (joined e t) ≡ after =
-      ap (λ (b : Bool). joinAll (cond b [] (strike h old ∷ [])) (joined e t)) (sym s) in
-      (
+      ap (λ (b : Bool). joinAll (cond b [] (strike h old ∷ [])) (joined e t)) (sym s) in (
         room-joined (strike h old) (joined e t) (room-of (joined e t) (place-room r)) (q .0) (q .1)
-        ∙ ap (λ (u : Table). not (tooMany u)) two,
+            ∙ ap (λ (u : Table). not (tooMany u)) two,
         two,
       )
 
@@ -188,8 +187,7 @@ module _ (h : Head) (t : Table) (k : Room t) (c : crowd t (h .id) ≤ 32) where
   state-new n r p =
       let one : joined (placeEntry h) (put h t) ≡ stated h t =
       ap (λ (o : Option Head). joinAll (setBy h o) (put h t)) (sym n) in
-      let place = held-put h t (h .directory) p in
-      (
+      let place = held-put h t (h .directory) p in (
         room-joined (placeEntry h) (put h t) (state-room r) (place .0) (place .1) ∙ ap (λ (u : Table). not (tooMany u)) one,
         one,
       )
@@ -245,14 +243,13 @@ module _ {l : List ℕ} (k : Stands l) (b : Bytes l) where
       let t : Table = tableOf l in
       let w = wide-of l b (k .size) in
       let q : r ≡ ticked (record { highest = t .highest }) now (t .own) =
-      f ∙ ap (λ (z : TableHeader). ticked (record { highest = z .highest }) now (z .own)) e in
-      (
+      f ∙ ap (λ (z : TableHeader). ticked (record { highest = z .highest }) now (z .own)) e in (
         ap (λ (z : Ticked). z .stamp) q,
         moved
-        (header-written k b (withHighest t (clockAt now t)) refl refl
-        (record { next = w .header .next; highest = omega arith }))
-        (ap (λ (z : TableHeader). splice l 0 (tableHeaderBytes (record { own = z .own; nodes = z .nodes; next = z .next; highest = r .clock .highest }))) e
-        ∙ ap (λ (z : Ticked). splice l 0 (tableHeaderBytes (record { own = t .own; nodes = t .nodes; next = t .next; highest = z .clock .highest }))) q),
+            (header-written k b (withHighest t (clockAt now t)) refl refl
+            (record { next = w .header .next; highest = omega arith }))
+            (ap (λ (z : TableHeader). splice l 0 (tableHeaderBytes (record { own = z .own; nodes = z .nodes; next = z .next; highest = r .clock .highest }))) e
+            ∙ ap (λ (z : Ticked). splice l 0 (tableHeaderBytes (record { own = t .own; nodes = t .nodes; next = t .next; highest = z .clock .highest }))) q),
       )
 
   pub counted : {h : TableHeader} → tableOf l .next ≤ 16777216 → h ≡ headerOf (tableOf l) →

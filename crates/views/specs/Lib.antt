@@ -6,3 +6,4 @@ pub mod Puts
 pub mod Sets
 pub mod Settles
 pub mod Sounds
+pub mod Takes

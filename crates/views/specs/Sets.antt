@@ -100,6 +100,13 @@ part-without n a b i p q h =
 pub has-join-left : (a b i : ℕ) → has a i ≡ true → has (join a b) i ≡ true
 has-join-left a b i h = has-join a b i ∙ ap (λ (x : Bool). x || has b i) h
 
+pub has-join-right : (a b i : ℕ) → has b i ≡ true → has (join a b) i ≡ true
+has-join-right a b i h = has-join a b i ∙ go (has a i) (has b i) h
+  where
+    go : (x y : Bool) → y ≡ true → (x || y) ≡ true
+    go true y p = refl
+    go false y p = p
+
 -- all nodes and some more are all nodes
 pub join-all-nodes : (n s : ℕ) → isSet n s ≡ true → join (all n) s ≡ all n
 join-all-nodes n s p =

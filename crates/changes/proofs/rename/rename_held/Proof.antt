@@ -11,16 +11,16 @@ use Rattle.changes.proofs.rename.rename_held.Statement.{statement}
 use Rattle.changes.proofs.rename.rename_held.Tie as tie
 
 returns : tie.Need-returns
-returns c = refuses _ (renamed-7 (c .before .before .before .args .time) (c .before .before .before .args .name) (tableOf (c .before .before .before .args .table .now)) (c .before .before .before .args .h) (c .before .before .before .args .p)  (c .if1 .taken))
+returns c = refuses _ (renamed-7 (c .before .before .before .args .time) (c .before .before .before .args .name) (tableOf (c .before .before .before .args .table .now)) (c .before .before .before .args .h) (c .before .before .before .args .p) (c .if1 .taken))
 
 returns-2 : tie.Need-returns-2
-returns-2 c = refuses _ (renamed-7-target (c .before .before .before .before .before .args .time) (c .before .before .before .before .before .args .name) (tableOf (c .before .before .before .before .before .args .table .now)) (c .before .before .before .before .before .args .h) (c .before .before .before .before .before .args .p)  (c .before .before .if1 .left) (c .if2 .taken))
+returns-2 c = refuses _ (renamed-7-target (c .before .before .before .before .before .args .time) (c .before .before .before .before .before .args .name) (tableOf (c .before .before .before .before .before .args .table .now)) (c .before .before .before .before .before .args .h) (c .before .before .before .before .before .args .p) (c .before .before .if1 .left) (c .if2 .taken))
 
 returns-3 : tie.Need-returns-3
-returns-3 c = refuses _ (renamed-8 (c .before .before .before .before .before .before .before .args .time) (c .before .before .before .before .before .before .before .args .name) (tableOf (c .before .before .before .before .before .before .before .args .table .now)) (c .before .before .before .before .before .before .before .args .h) (c .before .before .before .before .before .before .before .args .p)  (c .before .before .before .before .if1 .left) (c .before .before .if2 .left) (c .if3 .taken))
+returns-3 c = refuses _ (renamed-8 (c .before .before .before .before .before .before .before .args .time) (c .before .before .before .before .before .before .before .args .name) (tableOf (c .before .before .before .before .before .before .before .args .table .now)) (c .before .before .before .before .before .before .before .args .h) (c .before .before .before .before .before .before .before .args .p) (c .before .before .before .before .if1 .left) (c .before .before .if2 .left) (c .if3 .taken))
 
 returns-4 : tie.Need-returns-4
-returns-4 c = refuses _ (renamed-8-target (c .before .before .before .before .before .before .before .before .before .args .time) (c .before .before .before .before .before .before .before .before .before .args .name) (tableOf (c .before .before .before .before .before .before .before .before .before .args .table .now)) (c .before .before .before .before .before .before .before .before .before .args .h) (c .before .before .before .before .before .before .before .before .before .args .p)  (c .before .before .before .before .before .before .if1 .left) (c .before .before .before .before .if2 .left) (c .before .before .if3 .left) (c .if4 .taken))
+returns-4 c = refuses _ (renamed-8-target (c .before .before .before .before .before .before .before .before .before .args .time) (c .before .before .before .before .before .before .before .before .before .args .name) (tableOf (c .before .before .before .before .before .before .before .before .before .args .table .now)) (c .before .before .before .before .before .before .before .before .before .args .h) (c .before .before .before .before .before .before .before .before .before .args .p) (c .before .before .before .before .before .before .if1 .left) (c .before .before .before .before .if2 .left) (c .before .before .if3 .left) (c .if4 .taken))
 
 entries-used-requires : tie.Need-entries-used-requires
 entries-used-requires c κs = sound-length (c .before .before .before .before .before .before .before .before .before .before .args .table .now) (c .before .before .before .before .before .before .before .before .before .before .pre .file .sound)
@@ -32,13 +32,13 @@ same-length : tie.Need-same-length
 same-length c = search needs
 
 returns-5 : tie.Need-returns-5
-returns-5 c = refuses _ (renamed-9 (c .before .before .before .before .before .before .before .before .before .before .before .before .before .args .time) (c .before .before .before .before .before .before .before .before .before .before .before .before .before .args .name) (tableOf (c .before .before .before .before .before .before .before .before .before .before .before .before .before .args .table .now)) (c .before .before .before .before .before .before .before .before .before .before .before .before .before .args .h) (c .before .before .before .before .before .before .before .before .before .before .before .before .before .args .p)  (c .before .before .before .before .before .before .before .before .before .before .if1 .left) (c .before .before .before .before .before .before .before .before .if2 .left) (c .before .before .before .before .before .before .if3 .left) (c .before .before .before .before .if4 .left) (sym (c .before .is-name-taken .ensures) ∙ c .if5 .taken))
+returns-5 c = refuses _ (renamed-9 (c .before .before .before .before .before .before .before .before .before .before .before .before .before .args .time) (c .before .before .before .before .before .before .before .before .before .before .before .before .before .args .name) (tableOf (c .before .before .before .before .before .before .before .before .before .before .before .before .before .args .table .now)) (c .before .before .before .before .before .before .before .before .before .before .before .before .before .args .h) (c .before .before .before .before .before .before .before .before .before .before .before .before .before .args .p) (c .before .before .before .before .before .before .before .before .before .before .if1 .left) (c .before .before .before .before .before .before .before .before .if2 .left) (c .before .before .before .before .before .before .if3 .left) (c .before .before .before .before .if4 .left) (sym (c .before .is-name-taken .ensures) ∙ c .if5 .taken))
 
 same-length-2 : tie.Need-same-length-2
 same-length-2 c = search needs
 
 returns-6 : tie.Need-returns-6
-returns-6 c = refuses _ (renamed-11 (c .before .before .before .before .before .before .before .before .before .before .before .before .before .before .before .args .time) (c .before .before .before .before .before .before .before .before .before .before .before .before .before .before .before .args .name) (tableOf (c .before .before .before .before .before .before .before .before .before .before .before .before .before .before .before .args .table .now)) (c .before .before .before .before .before .before .before .before .before .before .before .before .before .before .before .args .h) (c .before .before .before .before .before .before .before .before .before .before .before .before .before .before .before .args .p)  (c .before .before .before .before .before .before .before .before .before .before .before .before .if1 .left) (c .before .before .before .before .before .before .before .before .before .before .if2 .left) (c .before .before .before .before .before .before .before .before .if3 .left) (c .before .before .before .before .before .before .if4 .left) (sym (c .before .before .before .is-name-taken .ensures) ∙ c .before .before .if5 .left) (c .if6 .taken))
+returns-6 c = refuses _ (renamed-11 (c .before .before .before .before .before .before .before .before .before .before .before .before .before .before .before .args .time) (c .before .before .before .before .before .before .before .before .before .before .before .before .before .before .before .args .name) (tableOf (c .before .before .before .before .before .before .before .before .before .before .before .before .before .before .before .args .table .now)) (c .before .before .before .before .before .before .before .before .before .before .before .before .before .before .before .args .h) (c .before .before .before .before .before .before .before .before .before .before .before .before .before .before .before .args .p) (c .before .before .before .before .before .before .before .before .before .before .before .before .if1 .left) (c .before .before .before .before .before .before .before .before .before .before .if2 .left) (c .before .before .before .before .before .before .before .before .if3 .left) (c .before .before .before .before .before .before .if4 .left) (sym (c .before .before .before .is-name-taken .ensures) ∙ c .before .before .if5 .left) (c .if6 .taken))
 
 move-to-requires : tie.Need-move-to-requires
 move-to-requires c κs = record { both = c .before .before .before .before .before .before .before .before .before .before .before .before .before .before .before .before .pre; below = renames-below (c .before .before .before .before .before .before .before .before .before .before .before .before .before .before .before .before .pre) (c .before .before .before .before .before .before .before .before .before .if3 .left) .0; shallow = c .before .if6 .left }
@@ -47,7 +47,7 @@ same-length-3 : tie.Need-same-length-3
 same-length-3 c = search needs
 
 returns-7 : tie.Need-returns-7
-returns-7 c = instead _ (sym (renamed-moves (c .before .before .before .before .before .before .before .before .before .before .before .before .before .before .before .before .before .before .before .args .time) (c .before .before .before .before .before .before .before .before .before .before .before .before .before .before .before .before .before .before .before .args .name) (tableOf (c .before .before .before .before .before .before .before .before .before .before .before .before .before .before .before .before .before .before .before .args .table .now)) (c .before .before .before .before .before .before .before .before .before .before .before .before .before .before .before .before .before .before .before .args .h) (c .before .before .before .before .before .before .before .before .before .before .before .before .before .before .before .before .before .before .before .args .p)  (c .before .before .before .before .before .before .before .before .before .before .before .before .before .before .before .before .if1 .left) (c .before .before .before .before .before .before .before .before .before .before .before .before .before .before .if2 .left) (c .before .before .before .before .before .before .before .before .before .before .before .before .if3 .left) (c .before .before .before .before .before .before .before .before .before .before .if4 .left) (sym (c .before .before .before .before .before .before .before .is-name-taken .ensures) ∙ c .before .before .before .before .before .before .if5 .left) (c .before .before .before .before .if6 .left) (renames-below (c .before .before .before .before .before .before .before .before .before .before .before .before .before .before .before .before .before .before .before .pre) (c .before .before .before .before .before .before .before .before .before .before .before .before .if3 .left) .1))) (c .before .before .move-to .ensures)
+returns-7 c = instead _ (sym (renamed-moves (c .before .before .before .before .before .before .before .before .before .before .before .before .before .before .before .before .before .before .before .args .time) (c .before .before .before .before .before .before .before .before .before .before .before .before .before .before .before .before .before .before .before .args .name) (tableOf (c .before .before .before .before .before .before .before .before .before .before .before .before .before .before .before .before .before .before .before .args .table .now)) (c .before .before .before .before .before .before .before .before .before .before .before .before .before .before .before .before .before .before .before .args .h) (c .before .before .before .before .before .before .before .before .before .before .before .before .before .before .before .before .before .before .before .args .p) (c .before .before .before .before .before .before .before .before .before .before .before .before .before .before .before .before .if1 .left) (c .before .before .before .before .before .before .before .before .before .before .before .before .before .before .if2 .left) (c .before .before .before .before .before .before .before .before .before .before .before .before .if3 .left) (c .before .before .before .before .before .before .before .before .before .before .if4 .left) (sym (c .before .before .before .before .before .before .before .is-name-taken .ensures) ∙ c .before .before .before .before .before .before .if5 .left) (c .before .before .before .before .if6 .left) (renames-below (c .before .before .before .before .before .before .before .before .before .before .before .before .before .before .before .before .before .before .before .pre) (c .before .before .before .before .before .before .before .before .before .before .before .before .if3 .left) .1))) (c .before .before .move-to .ensures)
 
 pub rename-held-spec : {M : Type 1} → statement M
 rename-held-spec =

@@ -27,13 +27,13 @@ dead-requires : tie.Need-dead-requires
 dead-requires c κs = search needs
 
 change-requires : tie.Need-change-requires
-change-requires c κs = kill-changes (c .before .before .before .before .before .before .before .before .before .pre)  _ _ (c .before .before .before .before .before .before .copy-of .ensures) _ _ (c .dead .ensures) (c .before .before .before .before .draw .ensures .1)
+change-requires c κs = kill-changes (c .before .before .before .before .before .before .before .before .before .pre) _ _ (c .before .before .before .before .before .before .copy-of .ensures) _ _ (c .dead .ensures) (c .before .before .before .before .draw .ensures .1)
 
 same-length : tie.Need-same-length
 same-length c = search needs
 
 returns : tie.Need-returns
-returns c = instead _ (kill-is (c .before .before .before .before .before .before .before .before .before .before .before .before .before .pre)  _ _ (c .before .before .before .before .before .before .before .before .before .before .copy-of .ensures) _ _ (c .before .before .before .before .dead .ensures) (c .before .before .before .before .before .before .before .before .draw .ensures .0) (c .before .before .before .before .before .before .before .before .draw .ensures .1)) (c .before .before .before .change .ensures)
+returns c = instead _ (kill-is (c .before .before .before .before .before .before .before .before .before .before .before .before .before .pre) _ _ (c .before .before .before .before .before .before .before .before .before .before .copy-of .ensures) _ _ (c .before .before .before .before .dead .ensures) (c .before .before .before .before .before .before .before .before .draw .ensures .0) (c .before .before .before .before .before .before .before .before .draw .ensures .1)) (c .before .before .before .change .ensures)
 
 pub kill-spec : {M : Type 1} → statement M
 kill-spec =

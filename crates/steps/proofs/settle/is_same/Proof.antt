@@ -43,9 +43,11 @@ get-u32-requires : tie.Need-get-u32-requires
 get-u32-requires c κs = omega (arith, c .before .before .before .before .before .before .before .pre .slot, c .before .before .before .before .before .before .before .pre .settles .after .size, few-replicas (c .before .before .before .before .before .before .before .args .t .now))
 
 are-entries-same-requires : tie.Need-are-entries-same-requires
-are-entries-same-requires c κs =
-    (omega (arith, c .before .before .before .before .before .before .before .before .pre .settles .before .size), omega (arith, c .before .before .before .before .before .before .before .before .pre .settles .after .size),
-    omega (arith, c .before .before .before .before .before .before .before .before .pre .present, few-entries (c .before .before .before .before .before .before .before .before .args .t .now)))
+are-entries-same-requires c κs = (
+  omega (arith, c .before .before .before .before .before .before .before .before .pre .settles .before .size),
+  omega (arith, c .before .before .before .before .before .before .before .before .pre .settles .after .size),
+  omega (arith, c .before .before .before .before .before .before .before .before .pre .present, few-entries (c .before .before .before .before .before .before .before .before .args .t .now)),
+)
 
 returns-3 : tie.Need-returns-3
 returns-3 c =

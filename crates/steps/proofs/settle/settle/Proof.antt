@@ -45,9 +45,11 @@ same-length : tie.Need-same-length Inv-loop μ-loop
 same-length c = search needs
 
 returns : tie.Need-returns Inv-loop μ-loop
-returns c =
-    (turn-past (c .before .before .before .before .before .before .before .before .before .before .before .before .before .before .before .pre) (c .before .before .before .before .before .before .loop .t) (c .before .before .before .before .before .before .loop .i) (c .before .before .before .before .before .before .loop .inv .1) (omega (arith, c .before .before .before .before .before .loop-test .taken, c .before .before .before .before .before .before .before .replicas-used2 .ensures .0))
-    (sym (failed (c .before .before .before .settle-slot .ensures .0) (c .if1 .taken))), λ e. never e)
+returns c = (
+  turn-past (c .before .before .before .before .before .before .before .before .before .before .before .before .before .before .before .pre) (c .before .before .before .before .before .before .loop .t) (c .before .before .before .before .before .before .loop .i) (c .before .before .before .before .before .before .loop .inv .1) (omega (arith, c .before .before .before .before .before .loop-test .taken, c .before .before .before .before .before .before .before .replicas-used2 .ensures .0))
+      (sym (failed (c .before .before .before .settle-slot .ensures .0) (c .if1 .taken))),
+  λ e. never e,
+)
 
 add-i : tie.Need-add-i Inv-loop μ-loop
 add-i c = search needs

@@ -39,9 +39,11 @@ same-length-2 : tie.Need-same-length-2
 same-length-2 c = search needs
 
 returns-2 : tie.Need-returns-2
-returns-2 c =
-    (slot-past (λ i. omega (arith, c .before .before .before .before .before .before .before .before .shared-slice-known .given i)) (λ n. c .before .before .before .before .before .before .before .slice-known .given n .fits) (c .before .before .before .before .before .before .before .before .before .pre) (sym (c .before .before .before .before .if1 .left) ∙ c .before .before .before .before .before .is-same .ensures)
-    (ap (λ (r : Replica). r .version) (sym (c .before .before .read .ensures)) ∙ c .if2 .taken), λ e. never e)
+returns-2 c = (
+  slot-past (λ i. omega (arith, c .before .before .before .before .before .before .before .before .shared-slice-known .given i)) (λ n. c .before .before .before .before .before .before .before .slice-known .given n .fits) (c .before .before .before .before .before .before .before .before .before .pre) (sym (c .before .before .before .before .if1 .left) ∙ c .before .before .before .before .before .is-same .ensures)
+      (ap (λ (r : Replica). r .version) (sym (c .before .before .read .ensures)) ∙ c .if2 .taken),
+  λ e. never e,
+)
 
 get-u8-requires : tie.Need-get-u8-requires
 get-u8-requires c κs = omega (arith, c .before .before .before .before .before .before .before .before .before .before .pre .settles .after .size)
@@ -70,9 +72,11 @@ returns-3 c =
     let same : r ≡ _ = c .before .before .before .before .before .before .before .before .before .before .before .read .ensures in
     let own : c .before .before .before .before .before .before .before .get-u8 .result ≡ tableOf (c .before .before .before .before .before .before .before .before .before .before .before .before .before .before .before .before .before .before .args .t .now) .own = c .before .before .before .before .before .before .before .get-u8 .ensures ∙ own-at (c .before .before .before .before .before .before .before .before .before .before .before .before .before .before .before .before .before .before .args .t .now) in
     let p = slot-raised (λ i. omega (arith, c .before .before .before .before .before .before .before .before .before .before .before .before .before .before .before .before .before .shared-slice-known .given i)) (λ n. c .before .before .before .before .before .before .before .before .before .before .before .before .before .before .before .before .slice-known .given n .fits) (c .before .before .before .before .before .before .before .before .before .before .before .before .before .before .before .before .before .before .pre) (sym (c .before .before .before .before .before .before .before .before .before .before .before .before .before .if1 .left) ∙ c .before .before .before .before .before .before .before .before .before .before .before .before .before .before .is-same .ensures)
-    (λ v. c .before .before .before .before .before .before .before .before .before .if2 .left (ap (λ (r : Replica). r .version) same ∙ v)) in
-    (p .0, λ _. moved (p .1)
-    (c .before .before .write .ensures ∙ ap (λ (z : Replica). splice (c .before .before .before .before .before .before .before .before .before .before .before .before .before .before .before .before .before .before .args .t .now) (32 + 48 * c .before .before .before .before .before .before .before .before .before .before .before .before .before .before .before .before .before .before .args .i) (replicaBytes z)) (raised-is same own (c .before .before .before .before .without .ensures))))
+    (λ v. c .before .before .before .before .before .before .before .before .before .if2 .left (ap (λ (r : Replica). r .version) same ∙ v)) in (
+      p .0,
+      λ _. moved (p .1)
+          (c .before .before .write .ensures ∙ ap (λ (z : Replica). splice (c .before .before .before .before .before .before .before .before .before .before .before .before .before .before .before .before .before .before .args .t .now) (32 + 48 * c .before .before .before .before .before .before .before .before .before .before .before .before .before .before .before .before .before .before .args .i) (replicaBytes z)) (raised-is same own (c .before .before .before .before .without .ensures))),
+    )
 
 pub settle-slot-spec : {M : Type 1} → statement M
 settle-slot-spec =

@@ -32,9 +32,10 @@ same-length c = search needs
 
 returns : tie.Need-returns
 returns c =
-    let h : c .before .before .before .before .before .before .read .result ≡ headerOf (tableOf (c .before .before .before .before .before .before .before .before .before .args .t .now)) = c .before .before .before .before .before .before .read .ensures ∙ header-read (c .before .before .before .before .before .before .before .before .before .args .t .now) in
-    (c .id-of .ensures ∙ ap (λ (z : TableHeader). idOf (z .own) (z .next)) h,
-    moved (counted (c .before .before .before .before .before .before .before .before .before .pre .0) (λ n. c .before .before .before .before .before .before .before .before .slice-known .given n .fits) (c .before .before .before .before .before .before .before .before .before .pre .2) h) (c .before .before .before .write .ensures))
+    let h : c .before .before .before .before .before .before .read .result ≡ headerOf (tableOf (c .before .before .before .before .before .before .before .before .before .args .t .now)) = c .before .before .before .before .before .before .read .ensures ∙ header-read (c .before .before .before .before .before .before .before .before .before .args .t .now) in (
+      c .id-of .ensures ∙ ap (λ (z : TableHeader). idOf (z .own) (z .next)) h,
+      moved (counted (c .before .before .before .before .before .before .before .before .before .pre .0) (λ n. c .before .before .before .before .before .before .before .before .slice-known .given n .fits) (c .before .before .before .before .before .before .before .before .before .pre .2) h) (c .before .before .before .write .ensures),
+    )
 
 pub take-id-spec : {M : Type 1} → statement M
 take-id-spec =
