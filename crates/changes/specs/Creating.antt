@@ -5,7 +5,7 @@ use mathlib.Core.Option.{Option, some, none}
 use mathlib.Core.List.{List, [], _∷_}
 use Prim.Native.Nat.{ℕ, _+_, _^_, _≤_, _<_}
 use native.Mathlib.Omega.{arith}
-use lib.Dec.{leb, ltb}
+use lib.Dec.{leb}
 use borrow.Author.Tests.{eq-eqb, ne-eqb, le-leb, lt-leb, ltb-true, leb-true}
 use Rattle.codec.specs.Bytes.{u8At}
 use Rattle.codec.specs.Lists.{and-true}
@@ -15,15 +15,14 @@ use Rattle.numbers.specs.Nodes.{isWithin, isSet, join, single}
 use Rattle.numbers.specs.Ids.{idOf}
 use Rattle.records.specs.declared.head.Head.{Head}
 use Rattle.document.specs.Tables.{Table, headOf, tableOf, withHighest, withNext}
-use Rattle.document.specs.Sound.{soundBytes, isDirectory}
-use Rattle.document.specs.Steps.{settle, issue, stampAt, clockAt, tooMany, pastEnd, isDead}
+use Rattle.document.specs.Sound.{soundBytes}
+use Rattle.document.specs.Steps.{settle, stampAt, clockAt, tooMany, pastEnd, isDead}
 use Rattle.document.specs.Outcomes.{Outcome, refused, done, judged}
 use Rattle.document.specs.Calls.{when, isNow, changedBy, notHeld, notDirectory, nameTaken, deepest, newHead, created, createIn}
 use Rattle.kept.specs.States.{new-id-free}
-use Rattle.views.specs.Sounds.{Sound}
 use Rattle.table.specs.Ranges.{nodes-at}
-use Rattle.steps.specs.Standing.{Is, Stands, stands, never}
-use Rattle.steps.specs.States.{Held, stated, issue-stated}
+use Rattle.steps.specs.Standing.{Is}
+use Rattle.steps.specs.States.{issue-stated}
 use Rattle.changes.specs.Finishing.{Changes, changed, skip, stop}
 use Rattle.changes.specs.Working.{sound-table, held, crowd-new, set-below, withHeader, changes-on}
 use Rattle.changes.specs.Killing.{Takes, dead-is, live-is}

@@ -1,28 +1,23 @@
 -- The end of a call that works on a copy: what it answers from the table before and the copy. Assumes nothing.
 use mathlib.Core.Path.{_≡_, refl, ap, sym, subst, _∙_}
 use mathlib.Core.Bool.{Bool, true, false, _||_, not, cond}
-use mathlib.Core.Option.{Option, some, none}
 use mathlib.Core.List.{List, [], _∷_}
-use Prim.Native.Nat.{ℕ, _+_, _^_, _≤_, _<_}
+use Prim.Native.Nat.{ℕ, _^_, _≤_, _<_}
 use native.Mathlib.Omega.{arith}
 use lib.Dec.{ltb, leb}
 use lib.ListN.{length}
 use borrow.Author.Tests.{lt-ltb, le-ltb, le-leb, lt-leb}
 use Rattle.codec.specs.Bytes.{splice, Bytes}
-use Rattle.codec.specs.Lists.{every, and-true}
+use Rattle.codec.specs.Lists.{and-true}
 use Rattle.names.specs.Names.{splice-whole}
 use Rattle.records.specs.declared.head.Head.{Head}
-use Rattle.slots.specs.declared.replica.Replica.{Replica}
-use Rattle.slots.specs.declared.table_header.TableHeader.{TableHeader}
-use Rattle.document.specs.Tables.{Table, headerOf, headOf, tableOf, tableBytes, tableInRange}
+use Rattle.document.specs.Tables.{Table, headOf, tableOf, tableBytes, tableInRange}
 use Rattle.document.specs.Sound.{soundBytes, idsUnique, rootFirst, rules}
 use Rattle.slots.specs.declared.listed.Listed.{Listed}
 use Rattle.document.specs.Steps.{put, joined, joinAll, setBy, settle, tooMany, pastEnd}
-use Rattle.document.specs.Outcomes.{Outcome, refused, done, Refusal, judged, tableAfter}
+use Rattle.document.specs.Outcomes.{Outcome, refused, done, Refusal, judged}
 use Rattle.document.specs.Calls.{when}
 use Rattle.views.specs.Settles.{settle-highest, settle-next}
-use Rattle.answers.specs.declared.Answer.{Answer}
-use Rattle.answers.specs.Answers.{answerOf, refuses, does}
 use Rattle.steps.specs.Standing.{Is, Stands, stands, sound-stands, never}
 use Rattle.steps.specs.Grown.{Grown, grown-put, grown-joined}
 use Rattle.steps.specs.Room.{many-settle}

@@ -1,28 +1,27 @@
 -- Unlink and remove: the refusals, test by test, and the state that is killed. Assumes nothing.
 use mathlib.Core.Path.{_≡_, refl, ap, sym, subst, _∙_}
-use mathlib.Core.Bool.{Bool, true, false, _||_, not, cond}
+use mathlib.Core.Bool.{Bool, true, false, _||_, not}
 use mathlib.Core.Option.{Option, some, none}
 use mathlib.Core.List.{List, [], _∷_}
-use Prim.Native.Nat.{ℕ, _+_, _^_, _≤_, _<_}
+use Prim.Native.Nat.{ℕ, _^_, _≤_, _<_}
 use native.Mathlib.Omega.{arith}
-use lib.Dec.{eqb, ltb}
+use lib.Dec.{eqb}
 use borrow.Author.Tests.{eq-eqb, ne-eqb, lt-ltb, le-ltb}
-use Rattle.codec.specs.Bytes.{Bytes}
 use Rattle.records.specs.declared.head.Head.{Head}
-use Rattle.records.specs.Heads.{headAt, rootHead}
+use Rattle.records.specs.Heads.{headAt}
 use Rattle.document.specs.Tables.{Table, headOf, tableOf, withHighest, replicaSlot}
-use Rattle.document.specs.Sound.{soundBytes, isLive, isDirectory, isHeld}
-use Rattle.document.specs.Steps.{settle, issue, stampAt, clockAt, withState, tooMany, pastEnd, isDead}
+use Rattle.document.specs.Sound.{soundBytes, isDirectory}
+use Rattle.document.specs.Steps.{settle, stampAt, clockAt, withState, tooMany, pastEnd, isDead}
 use Rattle.document.specs.Outcomes.{Outcome, refused, done, judged}
-use Rattle.document.specs.Calls.{when, isNow, changedBy, notHeld, notFile, notDirectory, placeNotHeld, killed, unlinkIn, unlinkRefusals, removeIn, removeRefusals, anyShown, liveChild}
+use Rattle.document.specs.Calls.{when, isNow, changedBy, notHeld, notFile, notDirectory, placeNotHeld, killed, unlinkIn, removeIn, anyShown, liveChild}
 use Rattle.views.specs.Puts.{head-id}
-use Rattle.views.specs.Sounds.{Sound, root-only}
+use Rattle.views.specs.Sounds.{root-only}
 use Rattle.table.specs.declared.find.Found.the-variants.{At}
-use Rattle.steps.specs.Standing.{Is, Stands}
-use Rattle.steps.specs.States.{Held, stated, issue-stated}
+use Rattle.steps.specs.Standing.{Is}
+use Rattle.steps.specs.States.{Held, issue-stated}
 use Rattle.changes.specs.Finishing.{Changes, changed, skip, stop}
 use Rattle.changes.specs.Looking.{slotOf, slot-held}
-use Rattle.changes.specs.Working.{sound-table, drawn-on, place-there, place-held, crowd-held, withHeader, changes-on}
+use Rattle.changes.specs.Working.{sound-table, drawn-on, place-there, place-held, crowd-held, changes-on}
 
 -- ---- the state that is killed
 

@@ -3,7 +3,7 @@
 use mathlib.Core.Path.{_≡_, refl, ap, sym, _∙_}
 use mathlib.Core.Bool.{Bool, true, false, _&&_, _||_, not, cond}
 use mathlib.Core.Option.{some, none}
-use mathlib.Core.List.{List, [], _∷_}
+use mathlib.Core.List.{List}
 use Prim.Native.Nat.{ℕ, zero, suc, _+_, _-_, _≤_, _<_}
 use native.Mathlib.Omega.{arith}
 use native.Mathlib.Nat.{sub-zero}
@@ -20,14 +20,14 @@ use Rattle.slots.specs.declared.replica.Replica.{Replica}
 use Rattle.slots.specs.declared.listed.Listed.{Listed}
 use Rattle.slots.specs.Replicas.{replica-fields}
 use Rattle.slots.specs.Listings.{listed-fields}
-use Rattle.document.specs.Tables.{Table, headOf, slotsFrom, tableOf, replicaSlot, entrySlot, replicaIn, entryIn, replicasUsed, entriesUsed}
+use Rattle.document.specs.Tables.{headOf, slotsFrom, tableOf, replicaSlot, entrySlot, replicaIn, entryIn, replicasUsed, entriesUsed}
 use Rattle.document.specs.Sound.{isLive, isRootId}
 use Rattle.document.specs.Calls.{isShown, nameTaken, anyShown, liveChild}
 use Rattle.answers.specs.Held.{not-an-id}
 use Rattle.table.specs.declared.find.Found.{Found}
 use Rattle.table.specs.declared.find.Found.the-variants.{At, Nothing}
-use Rattle.table.specs.Slots.{firstReplica, directory-at, name-at, id-at}
-use Rattle.steps.specs.Standing.{found-head, not-found, few-replicas, never}
+use Rattle.table.specs.Slots.{firstReplica, directory-at, name-at}
+use Rattle.steps.specs.Standing.{found-head, not-found, few-replicas}
 
 -- ---- the slot that a number names; one past 2^32-1 names none
 

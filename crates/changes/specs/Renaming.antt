@@ -3,15 +3,13 @@ use mathlib.Core.Path.{_≡_, refl, ap, sym, subst, _∙_}
 use mathlib.Core.Bool.{Bool, true, false, _&&_, _||_, not, true≢false}
 use mathlib.Core.Option.{Option, some, none}
 use mathlib.Core.List.{List, [], _∷_}
-use Prim.Native.Nat.{ℕ, _+_, _≤_, _<_}
-use native.Mathlib.Omega.{arith}
+use Prim.Native.Nat.{ℕ, _≤_, _<_}
 use borrow.Author.Tests.{eq-eqb, ne-eqb, le-leb, lt-leb}
 use Rattle.codec.specs.Lists.{or-stop, or-go}
 use Rattle.names.specs.declared.Name.{Name}
 use Rattle.names.specs.Names.{isName, isText, nameFrom, name-from}
 use Rattle.records.specs.declared.head.Head.{Head}
 use Rattle.document.specs.Tables.{Table, headOf, tableOf, withHighest}
-use Rattle.document.specs.Sound.{isDirectory}
 use Rattle.document.specs.Steps.{settle, stampAt, clockAt, withPlace, tooMany, pastEnd, isDead}
 use Rattle.document.specs.Outcomes.{Outcome, refused, done, judged}
 use Rattle.document.specs.Calls.{when, isNow, changedBy, notHeld, notFile, notDirectory, nameTaken, deepest, placeNotHeld, renamed, renameIn}

@@ -1,9 +1,9 @@
 -- Spread: the refusals, and the head that is put. Assumes nothing.
 use mathlib.Core.Path.{_≡_, refl, ap, sym, subst, _∙_}
-use mathlib.Core.Bool.{Bool, true, false, _||_, not}
+use mathlib.Core.Bool.{true, false, _||_, not}
 use mathlib.Core.Option.{Option, some, none}
 use mathlib.Core.List.{List, [], _∷_}
-use Prim.Native.Nat.{ℕ, _^_, _≤_, _<_}
+use Prim.Native.Nat.{ℕ}
 use native.Mathlib.Omega.{arith}
 use lib.Dec.{ltb}
 use lib.ListN.{length}
@@ -12,12 +12,11 @@ use Rattle.records.specs.declared.head.Head.{Head}
 use Rattle.records.specs.Heads.{headAt}
 use Rattle.document.specs.Tables.{Table, headOf, tableOf, replicaSlot}
 use Rattle.document.specs.Sound.{soundBytes, isHeld}
-use Rattle.document.specs.Steps.{put, settle, withHolders, tooMany, pastEnd}
+use Rattle.document.specs.Steps.{put, withHolders, tooMany, pastEnd}
 use Rattle.document.specs.Outcomes.{Outcome, refused, done, judged}
 use Rattle.document.specs.Calls.{when, changedBy, notHeld, spreadTo, spreadIn}
-use Rattle.views.specs.Sounds.{Sound}
 use Rattle.kept.specs.Limits.{spread-room}
-use Rattle.steps.specs.Standing.{Is, Stands, stands}
+use Rattle.steps.specs.Standing.{Is, stands}
 use Rattle.steps.specs.Putting.{hasSlot}
 use Rattle.steps.specs.Grown.{Grown, grown-refl, grown-put}
 use Rattle.changes.specs.Finishing.{Ends, ended, skip, stop}

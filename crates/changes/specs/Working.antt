@@ -1,10 +1,10 @@
 -- What a sound table gives the calls that work on a copy of it: room, directories that are held, an id that is free.
 -- Assumes nothing.
 use mathlib.Core.Path.{_≡_, refl, ap, sym, subst, _∙_}
-use mathlib.Core.Bool.{Bool, true, false, not, cond}
+use mathlib.Core.Bool.{Bool, true, false, cond}
 use mathlib.Core.Option.{Option, some, none}
 use mathlib.Core.List.{List, [], _∷_, List·Memᴰ·head, List·Memᴰ·tail}
-use Prim.Native.Nat.{ℕ, _+_, _^_, _≤_, _<_}
+use Prim.Native.Nat.{ℕ, _^_, _≤_, _<_}
 use native.Mathlib.Omega.{arith}
 use lib.Dec.{eqb, leb}
 use lib.ListN.{length}
@@ -14,21 +14,19 @@ use Rattle.codec.specs.Bytes.{Bytes}
 use Rattle.codec.specs.Lists.{and-true}
 use Rattle.numbers.specs.Nodes.{isSet}
 use Rattle.records.specs.declared.head.Head.{Head}
-use Rattle.records.specs.declared.entry.Entry.{Entry}
-use Rattle.slots.specs.declared.replica.Replica.{Replica}
 use Rattle.slots.specs.declared.listed.Listed.{Listed}
-use Rattle.document.specs.Tables.{Table, find, headOf?, headOf, entriesOf, tableOf, withHighest}
+use Rattle.document.specs.Tables.{Table, find, headOf, entriesOf, tableOf, withHighest}
 use Rattle.document.specs.Steps.{clockAt}
 use Rattle.document.specs.Sound.{soundBytes}
 use Rattle.document.specs.Calls.{notHeld, placeNotHeld}
 use Rattle.views.specs.Lists.{In}
-use Rattle.views.specs.Puts.{head-found, head-id, head-own, head-member}
+use Rattle.views.specs.Puts.{head-found, head-member}
 use Rattle.views.specs.Sounds.{Sound, sound-is}
 use Rattle.kept.specs.Kept.{bytes-sound}
 use Rattle.steps.specs.Standing.{Each, end, more, Is, Stands, stands, moved, sound-stands}
 use Rattle.steps.specs.Grown.{Grown, grown-refl}
 use Rattle.steps.specs.Room.{Room, crowd}
-use Rattle.steps.specs.States.{Held, Ready}
+use Rattle.steps.specs.States.{Held}
 use Rattle.changes.specs.Finishing.{Changes}
 
 pub sound-table : (l : List ℕ) → soundBytes l ≡ true → Sound (tableOf l)

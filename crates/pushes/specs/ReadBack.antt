@@ -1,5 +1,4 @@
--- Written, then read: the push that a sound table writes of a replica that it holds, for a node that is pending, is
--- read
+-- Written, then read: the push that a sound table writes of a replica that it holds, for a node that is pending, is read
 -- by every table with that N as the push that was written, with the heads and the entries that its writer held. And the
 -- acknowledgement of a push that was read is read as it was written. Assumes nothing.
 use mathlib.Core.Path.{_≡_, refl, ap, sym, subst, _∙_}

@@ -11,13 +11,12 @@ use lib.Dec.{eqb}
 use lib.ListN.{length, set}
 use borrow.Author.Tests.{eqb-true, eqb-false, eq-eqb, ne-eqb, not-true}
 use Rattle.codec.specs.Bytes.{chunk, splice, u8At, u32At, Bytes}
-use Rattle.codec.specs.Laws.{getD-chunk, chunk-whole}
+use Rattle.codec.specs.Laws.{chunk-whole}
 use Rattle.codec.specs.Lists.{every, and-true}
 use Rattle.numbers.specs.Nodes.{has, without}
 use Rattle.messages.specs.declared.acknowledgement.Acknowledgement.{Acknowledgement}
 use Rattle.messages.specs.Acknowledgements.{ackOf, ackInRange}
 use Rattle.slots.specs.declared.replica.Replica.{Replica}
-use Rattle.slots.specs.TableHeaders.{tableHeaderOf}
 use Rattle.slots.specs.Replicas.{replica-fields}
 use Rattle.document.specs.Layouts.{replicaLayout}
 use Rattle.document.specs.Rows.{used-le}

@@ -1,16 +1,15 @@
 -- Receive: the refusals, and what is done with the copy: its table, and the acknowledgement in the output.
 -- Assumes nothing.
 use mathlib.Core.Path.{_≡_, refl, ap, sym, subst, _∙_}
-use mathlib.Core.Bool.{Bool, true, false, _&&_, not, cond}
+use mathlib.Core.Bool.{Bool, true, false, not, cond}
 use mathlib.Core.Option.{Option, some, none}
 use mathlib.Core.List.{List, [], _∷_}
-use Prim.Native.Nat.{ℕ, _+_, _^_, _≤_, _<_}
+use Prim.Native.Nat.{ℕ, _≤_, _<_}
 use native.Mathlib.Omega.{arith}
 use lib.Dec.{eqb, ltb}
 use lib.ListN.{length}
-use borrow.Author.Tests.{eq-eqb, ne-eqb, lt-ltb, le-ltb}
+use borrow.Author.Tests.{lt-ltb, le-ltb}
 use Rattle.codec.specs.Bytes.{splice, u8At, u32At}
-use Rattle.messages.specs.declared.acknowledgement.Acknowledgement.{Acknowledgement}
 use Rattle.messages.specs.declared.push_header.PushHeader.{PushHeader}
 use Rattle.messages.specs.Acknowledgements.{ackBytes}
 use Rattle.messages.specs.PushHeaders.{pushAt, push-fields}
@@ -18,10 +17,10 @@ use Rattle.records.specs.declared.head.Head.{Head}
 use Rattle.records.specs.Heads.{head-fields}
 use Rattle.document.specs.Tables.{Table, tableOf}
 use Rattle.document.specs.Sound.{soundBytes}
-use Rattle.document.specs.Steps.{settle, tooMany, pastEnd}
-use Rattle.document.specs.Messages.{Push, readPush, messageOf, messageInRange, hangsTogether}
+use Rattle.document.specs.Steps.{tooMany, pastEnd}
+use Rattle.document.specs.Messages.{Push, readPush, messageOf}
 use Rattle.document.specs.Receive.{received, odd, ackFor}
-use Rattle.document.specs.Outcomes.{Outcome, refused, done, Refusal, judged, numberOf, tableAfter, outputAfter}
+use Rattle.document.specs.Outcomes.{Outcome, refused, done, judged, numberOf, tableAfter, outputAfter}
 use Rattle.document.specs.Calls.{when, isNow, ifPush, takeIn, receiveIn, receive}
 use Rattle.pushes.specs.Judging.{isPush}
 use Rattle.pushes.specs.Reading.{read-push}

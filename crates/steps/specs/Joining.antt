@@ -9,13 +9,13 @@ use native.Mathlib.Omega.{arith}
 use native.Mathlib.Nat.{sub-zero}
 use lib.Dec.{eqb, ltb}
 use lib.ListN.{length, set, length-set, length-append}
-use borrow.Author.Tests.{eqb-true, eqb-false, eq-eqb, ne-eqb, lt-ltb, le-ltb, ltb-true, ltb-false}
+use borrow.Author.Tests.{eqb-true, eqb-false, eq-eqb, ne-eqb, lt-ltb, le-ltb, ltb-true}
 use Rattle.codec.specs.Bytes.{splice, Bytes}
 use Rattle.codec.specs.Lists.{and-true, and-stop, and-go}
 use Rattle.slots.specs.declared.listed.Listed.{Listed}
 use Rattle.records.specs.declared.entry.Entry.{Entry}
 use Rattle.slots.specs.Listings.{listedBytes, ListedFit}
-use Rattle.document.specs.Tables.{Table, first, isKey, findEntry, entryOf?, entryOf, entriesOf, slotsFrom, withEntries, tableBytes, tableOf, entrySlot, entryIn, entriesUsed}
+use Rattle.document.specs.Tables.{Table, first, findEntry, entryOf?, entryOf, entriesOf, slotsFrom, withEntries, tableBytes, tableOf, entrySlot, entryIn, entriesUsed}
 use Rattle.document.specs.Sound.{sameKey}
 use Rattle.document.specs.Steps.{newer, joinInto, joined, atOdds, oddJoin}
 use Rattle.table.specs.declared.find.Found.{Found}
@@ -182,6 +182,32 @@ meets-not-added x y s e = go (ltb (y .entry .stamp) (x .entry .stamp)) (atOdds x
     go false true e = let z : _≡_ {A = ℕ} 0 1 = cc in absurd (omega arith)
     go false false e = let z : _≡_ {A = ℕ} 0 1 = cc in absurd (omega arith)
 
+-- ---- where the key stands, or that it does not
+
+key-there : (l : List ℕ) (x : Listed) (i : ℕ) → firstEntry l (entriesUsed l) (x .directory) (x .entry .child) (x .entry .name) ≡ At i →
+    findEntry (x .directory) (x .entry .child) (x .entry .name) (tableOf l .entries) ≡ some (entryIn l i)
+unfolding tableOf
+key-there l x i e = found-slot (sameKey x) (entryIn l) 0 (entriesUsed l) i e .2
+
+key-absent : (l : List ℕ) (x : Listed) → firstEntry l (entriesUsed l) (x .directory) (x .entry .child) (x .entry .name) ≡ Nothing →
+    findEntry (x .directory) (x .entry .child) (x .entry .name) (tableOf l .entries) ≡ none
+unfolding tableOf
+key-absent l x e = no-slot (sameKey x) (entryIn l) 0 (entriesUsed l) e
+
+key-found : (l : List ℕ) (x : Listed) (i : ℕ) → firstEntry l (entriesUsed l) (x .directory) (x .entry .child) (x .entry .name) ≡ At i →
+    joinInto x (tableOf l .entries) ≡ set (tableOf l .entries) i (newer x (entryIn l i))
+unfolding tableOf
+key-found l x i e =
+    join-found x (entryIn l) 0 (entriesUsed l) i e
+    ∙ ap (λ (j : ℕ). set (slotsFrom (entryIn l) 0 (entriesUsed l)) j (newer x (entryIn l i))) (sub-zero i)
+
+-- the slot is set to what it has
+key-unset : (l : List ℕ) (i : ℕ) → set (tableOf l .entries) i (entryIn l i) ≡ tableOf l .entries
+unfolding tableOf
+key-unset l i =
+    ap (λ (j : ℕ). set (slotsFrom (entryIn l) 0 (entriesUsed l)) j (entryIn l i)) (sym (sub-zero i))
+    ∙ set-same (entryIn l) 0 (entriesUsed l) i (omega arith)
+
 module _ {l : List ℕ} (k : Stands l) (b : Bytes l) (x : Listed) (f : ListedFit x) where
   abbrev slot : Found
   slot = firstEntry l (entriesUsed l) (x .directory) (x .entry .child) (x .entry .name)
@@ -201,21 +227,12 @@ module _ {l : List ℕ} (k : Stands l) (b : Bytes l) (x : Listed) (f : ListedFit
   found : (i : ℕ) → slot ≡ At i →
       (i < entriesUsed l) × (true ≡ hasRoom x (tableOf l))
       × (joinInto x (tableOf l .entries) ≡ set (tableOf l .entries) i (newer x (entryIn l i)))
-  unfolding tableOf
   found i e =
       let p = found-slot (sameKey x) (entryIn l) 0 (entriesUsed l) i e in (
         omega (arith, p .1),
-        ap (λ (o : Option Listed). isListed (entryOf? o) || isRoom (x .directory) (tableOf l)) (sym (p .2)),
-        join-found x (entryIn l) 0 (entriesUsed l) i e
-            ∙ ap (λ (j : ℕ). set (slotsFrom (entryIn l) 0 (entriesUsed l)) j (newer x (entryIn l i))) (sub-zero i),
+        ap (λ (o : Option Listed). isListed (entryOf? o) || isRoom (x .directory) (tableOf l)) (sym (key-there l x i e)),
+        key-found l x i e,
       )
-
-  -- the slot is set to what it has
-  unset : (i : ℕ) → set (tableOf l .entries) i (entryIn l i) ≡ tableOf l .entries
-  unfolding tableOf
-  unset i =
-      ap (λ (j : ℕ). set (slotsFrom (entryIn l) 0 (entriesUsed l)) j (entryIn l i)) (sym (sub-zero i))
-      ∙ set-same (entryIn l) 0 (entriesUsed l) i (omega arith)
 
   -- it replaces what it meets, or leaves it
   replaced : (i : ℕ) → slot ≡ At i → (older : Bool) → ltb (entryIn l i .entry .stamp) (x .entry .stamp) ≡ older →
@@ -230,7 +247,7 @@ module _ {l : List ℕ} (k : Stands l) (b : Bytes l) (x : Listed) (f : ListedFit
   replaced i e false q =
       let p = found i e in
       let left : joinInto x (tableOf l .entries) ≡ tableOf l .entries =
-      p .2 ∙ ap (λ (z : Bool). set (tableOf l .entries) i (cond z x (entryIn l i))) q ∙ unset i in
+      p .2 ∙ ap (λ (z : Bool). set (tableOf l .entries) i (cond z x (entryIn l i))) q ∙ key-unset l i in
       let size = ap length left ∙ entries-held l in
       wide-is (wide-join (omega (arith, size, few-entries l)))
       (k .bytes ∙ ap (λ (es : List Listed). tableBytes (withEntries (tableOf l) es)) (sym left))
@@ -264,8 +281,7 @@ module _ {l : List ℕ} (k : Stands l) (b : Bytes l) (x : Listed) (f : ListedFit
 
   -- it is added
   absent : Added ≡ joinedIn l (entriesUsed l) x → findEntry (x .directory) (x .entry .child) (x .entry .name) (tableOf l .entries) ≡ none
-  unfolding tableOf
-  absent e = no-slot (sameKey x) (entryIn l) 0 (entriesUsed l) (go slot refl e)
+  absent e = key-absent l x (go slot refl e)
     where
       go : (s : Found) → slot ≡ s → Added ≡ joinedAt s (entryIn l) x → slot ≡ Nothing
       go Nothing f z = f
@@ -303,3 +319,49 @@ room-test l d m n u free e =
     and-go _ _ (lt-ltb (length (tableOf l .entries)) 256 (omega (arith, entries-held l, few-entries l)))
     (ap (λ (k : ℕ). ltb k 32)
     (e ∙ ap (λ (j : ℕ). entriesIn l j d) u ∙ sym (entries-count l d 0 (entriesUsed l))))
+
+-- ---- what the cases mean, against the definitions of document 01
+
+-- the entries after a join are those that its case says
+pub join-means : (l : List ℕ) (x : Listed) →
+    entriesAfter (joinedIn l (entriesUsed l) x) x (tableOf l .entries) ≡ joinInto x (tableOf l .entries)
+join-means l x = go (firstEntry l (entriesUsed l) (x .directory) (x .entry .child) (x .entry .name)) refl
+  where
+    met : (i : ℕ) → joinInto x (tableOf l .entries) ≡ set (tableOf l .entries) i (newer x (entryIn l i)) →
+        set (tableOf l .entries) i (entryIn l i) ≡ tableOf l .entries →
+        (older odd : Bool) → ltb (entryIn l i .entry .stamp) (x .entry .stamp) ≡ older →
+        entriesAfter (cond older (Replaced i) (cond odd AtOdds Same)) x (tableOf l .entries) ≡ joinInto x (tableOf l .entries)
+    met i e u true odd q = sym (e ∙ ap (λ (z : Bool). set (tableOf l .entries) i (cond z x (entryIn l i))) q)
+    met i e u false true q = sym (e ∙ ap (λ (z : Bool). set (tableOf l .entries) i (cond z x (entryIn l i))) q ∙ u)
+    met i e u false false q = sym (e ∙ ap (λ (z : Bool). set (tableOf l .entries) i (cond z x (entryIn l i))) q ∙ u)
+
+    go : (s : Found) → firstEntry l (entriesUsed l) (x .directory) (x .entry .child) (x .entry .name) ≡ s →
+        entriesAfter (joinedAt s (entryIn l) x) x (tableOf l .entries) ≡ joinInto x (tableOf l .entries)
+    go Nothing f = sym (join-none x (tableOf l .entries) (key-absent l x f))
+    go (At i) f =
+        met i (key-found l x i f) (key-unset l i) (ltb (entryIn l i .entry .stamp) (x .entry .stamp))
+        (atOdds x (some (entryIn l i .entry))) refl
+
+-- a join is refused with 13 exactly if it meets its stamp with another flag
+pub join-refused : (l : List ℕ) (x : Listed) →
+    refusalOf (joinedIn l (entriesUsed l) x) ≡ cond (oddJoin x (tableOf l)) 13 0
+join-refused l x = go (firstEntry l (entriesUsed l) (x .directory) (x .entry .child) (x .entry .name)) refl
+  where
+    met : (i : ℕ) → (older : Bool) → ltb (entryIn l i .entry .stamp) (x .entry .stamp) ≡ older →
+        (same : Bool) → eqb (entryIn l i .entry .stamp) (x .entry .stamp) ≡ same → (flag : Bool) →
+        refusalOf (cond older (Replaced i) (cond (same && flag) AtOdds Same)) ≡ cond (same && flag) 13 0
+    met i true p true q flag =
+        absurd (omega (arith, ltb-true (entryIn l i .entry .stamp) (x .entry .stamp) p, eqb-true (entryIn l i .entry .stamp) (x .entry .stamp) q))
+    met i true p false q flag = refl
+    met i false p true q true = refl
+    met i false p true q false = refl
+    met i false p false q flag = refl
+
+    go : (s : Found) → firstEntry l (entriesUsed l) (x .directory) (x .entry .child) (x .entry .name) ≡ s →
+        refusalOf (joinedAt s (entryIn l) x) ≡ cond (oddJoin x (tableOf l)) 13 0
+    go Nothing f = ap (λ (o : Option Listed). cond (atOdds x (entryOf? o)) 13 0) (sym (key-absent l x f))
+    go (At i) f =
+        met i (ltb (entryIn l i .entry .stamp) (x .entry .stamp)) refl
+        (eqb (entryIn l i .entry .stamp) (x .entry .stamp)) refl
+        (not (eqb (entryIn l i .entry .live) (x .entry .live)))
+        ∙ ap (λ (o : Option Listed). cond (atOdds x (entryOf? o)) 13 0) (sym (key-there l x i f))

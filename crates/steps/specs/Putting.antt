@@ -1,19 +1,18 @@
 -- A head that is put: whether there is a slot for it, and what its bytes make of the table. Assumes nothing.
-use mathlib.Core.Path.{_≡_, refl, ap, sym, subst, _∙_}
-use mathlib.Core.Bool.{Bool, true, false, _||_, not, cond}
+use mathlib.Core.Path.{_≡_, refl, ap, sym, _∙_}
+use mathlib.Core.Bool.{Bool, true, false, _||_, cond}
 use mathlib.Core.Option.{Option, some, none}
 use mathlib.Core.List.{List, [], _∷_, _++_}
-use Prim.Native.Nat.{ℕ, suc, _+_, _^_, _≤_, _<_}
+use Prim.Native.Nat.{ℕ, _+_, _≤_, _<_}
 use native.Mathlib.Omega.{arith}
 use native.Mathlib.Nat.{sub-zero}
 use lib.Dec.{eqb, ltb}
 use lib.ListN.{length, set, length-set, length-append}
-use borrow.Author.Tests.{eqb-true, eqb-false, lt-ltb, le-ltb}
+use borrow.Author.Tests.{lt-ltb, le-ltb}
 use Rattle.codec.specs.Bytes.{splice, Bytes}
 use Rattle.records.specs.declared.head.Head.{Head}
 use Rattle.records.specs.Heads.{headBytes, HeadFit}
 use Rattle.slots.specs.declared.replica.Replica.{Replica}
-use Rattle.slots.specs.declared.listed.Listed.{Listed}
 use Rattle.slots.specs.Replicas.{replicaBytes, ReplicaFit}
 use Rattle.document.specs.Tables.{Table, first, hasId, find, headOf?, headOf, slotsFrom, withReplicas, tableBytes, tableOf, replicaSlot, replicaIn, replicasUsed}
 use Rattle.document.specs.Sound.{isHeld}

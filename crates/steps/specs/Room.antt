@@ -1,27 +1,26 @@
 -- "16: the outcome needs more than 64 replicas, 256 entries, or 32 in a directory": a step that finds no room leads to
 -- such an outcome, whatever follows it, since steps only add; and one that finds room does not. Assumes nothing.
 use mathlib.Core.Path.{_≡_, refl, ap, sym, subst, _∙_}
-use mathlib.Core.Bool.{Bool, true, false, _&&_, _||_, not, cond}
+use mathlib.Core.Bool.{Bool, true, false, _||_, not, cond}
 use mathlib.Core.Option.{Option, some, none}
-use mathlib.Core.List.{List, [], _∷_, _++_}
-use Prim.Native.Nat.{ℕ, zero, suc, _+_, _≤_, _<_}
+use mathlib.Core.List.{List, [], _∷_}
+use Prim.Native.Nat.{ℕ, suc, _+_, _≤_, _<_}
 use native.Mathlib.Omega.{arith}
 use native.Mathlib.Nat.{add-zero}
-use lib.Dec.{eqb, ltb, leb}
+use lib.Dec.{eqb, ltb}
 use lib.ListN.{length, length-append}
-use borrow.Author.Tests.{eqb-true, eqb-false, eq-eqb, ne-eqb, lt-ltb, le-ltb, ltb-true, ltb-false, leb-true, le-leb}
+use borrow.Author.Tests.{eqb-true, eq-eqb, lt-ltb, le-ltb, ltb-true, ltb-false, leb-true, le-leb}
 use Rattle.codec.specs.Lists.{every, and-true}
 use Rattle.records.specs.declared.head.Head.{Head}
-use Rattle.records.specs.declared.entry.Entry.{Entry}
 use Rattle.slots.specs.declared.replica.Replica.{Replica}
 use Rattle.slots.specs.declared.listed.Listed.{Listed}
-use Rattle.document.specs.Tables.{Table, first, hasId, find, headOf?, headOf, findEntry, entryOf?, entryOf, entriesOf}
+use Rattle.document.specs.Tables.{Table, first, hasId, find, headOf?, entryOf?, entriesOf}
 use Rattle.document.specs.Sound.{isHeld, notCrowded, sameKey}
 use Rattle.document.specs.Steps.{putHead, put, renewed, newer, joinInto, joined, settle, settleAll, raised, unchanged, tooMany}
 use Rattle.views.specs.Settles.{settle-length}
 use Rattle.steps.specs.Standing.{Each, end, more, never}
 use Rattle.steps.specs.Putting.{hasSlot, newReplica, put-none}
-use Rattle.steps.specs.Joining.{isRoom, isListed, hasRoom, join-none}
+use Rattle.steps.specs.Joining.{isRoom, isListed, hasRoom}
 
 -- ---- a table within its limits
 

@@ -4,14 +4,14 @@ use mathlib.Core.Path.{_≡_, refl, ap, sym, subst, _∙_}
 use mathlib.Core.Bool.{Bool, true, false, _&&_, _||_, not, cond}
 use mathlib.Core.Option.{Option, some, none}
 use mathlib.Core.List.{List, [], _∷_, List·Memᴰ·head, List·Memᴰ·tail}
-use Prim.Native.Nat.{ℕ, zero, suc, _+_, _*_, _-_, _^_, _≤_, _<_}
+use Prim.Native.Nat.{ℕ, zero, suc, _+_, _-_, _^_, _≤_, _<_}
 use native.Mathlib.Omega.{arith}
 use native.Mathlib.Nat.{add-zero, sub-zero}
-use lib.Dec.{eqb, ltb, leb}
+use lib.Dec.{eqb, ltb}
 use lib.ListN.{length, set, getD, length-set}
-use borrow.Author.Tests.{eqb-true, eqb-false, eq-eqb, ne-eqb, lt-ltb, le-ltb, ltb-true, ltb-false}
-use Rattle.codec.specs.Bytes.{chunk, splice, u8At, u32At, sameBytes, bytesOf, Bytes}
-use Rattle.codec.specs.Laws.{first-chunk, same-eq, same-refl, getD-chunk}
+use borrow.Author.Tests.{lt-ltb, le-ltb, ltb-true}
+use Rattle.codec.specs.Bytes.{chunk, splice, u32At, sameBytes, bytesOf, Bytes}
+use Rattle.codec.specs.Laws.{first-chunk, same-eq, same-refl}
 use Rattle.codec.specs.Lists.{every, and-true, and-go, and-stop}
 use Rattle.numbers.specs.Nodes.{without}
 use Rattle.records.specs.declared.head.Head.{Head}
@@ -22,9 +22,8 @@ use Rattle.records.specs.Entries.{entryOf as entryRead}
 use Rattle.records.specs.Entries.{entryBytes, EntryFit, entry-round}
 use Rattle.slots.specs.declared.replica.Replica.{Replica}
 use Rattle.slots.specs.declared.listed.Listed.{Listed}
-use Rattle.slots.specs.Replicas.{replicaBytes, ReplicaFit, replicaAt}
+use Rattle.slots.specs.Replicas.{replicaBytes, ReplicaFit}
 use Rattle.slots.specs.Listings.{listedBytes, ListedFit}
-use Rattle.slots.specs.TableHeaders.{tableHeaderOf}
 use Rattle.document.specs.Tables.{Table, find, headOf?, headOf, entriesOf, slotsFrom, everySlot, withReplicas, tableBytes, tableOf, replicaSlot, entrySlot, replicaIn, entryIn, replicasUsed, entriesUsed}
 use Rattle.document.specs.Sound.{idsUnique}
 use Rattle.document.specs.Steps.{sameHead, sameEntry, sameEntries, unchanged, raised, settleAll, settle}
@@ -32,7 +31,7 @@ use Rattle.views.specs.Lists.{In}
 use Rattle.views.specs.Puts.{find-member}
 use Rattle.views.specs.Settles.{settled, settled-head, settled-kept, settled-raised, same-head, head-same, same-entry, entries-same}
 use Rattle.table.specs.Slots.{id-at, directory-at}
-use Rattle.steps.specs.Standing.{Each, end, more, Wide, Is, Stands, wide-of, wide-is, stands, never, replicas-held, entries-held, few-replicas, few-entries, replica-bytes, listed-bytes}
+use Rattle.steps.specs.Standing.{Each, end, more, Is, Stands, wide-of, wide-is, stands, never, replicas-held, entries-held, few-replicas, few-entries, replica-bytes, listed-bytes}
 use Rattle.steps.specs.Joining.{set-same}
 use Rattle.steps.specs.Writes.{slot-rewritten}
 use Rattle.steps.specs.Grown.{Grown, Grows, rest, next, Slots, grows-slots, each-slots, first-or, SameId, NotIn, SameDirectory, Anything}

@@ -12,14 +12,10 @@ use borrow.Author.Tests.{eqb-true, eqb-false}
 use Rattle.codec.specs.Bytes.{chunk, le, u8At, u32At, Bytes}
 use Rattle.codec.specs.Laws.{u32-bytes, u64-halves, length-chunk, getD-chunk}
 use Rattle.codec.specs.Lists.{and-true}
-use Rattle.records.specs.declared.head.Head.{Head}
-use Rattle.records.specs.declared.entry.Entry.{Entry}
 use Rattle.records.specs.Heads.{HeadFit, headAt, head-fields}
 use Rattle.records.specs.Entries.{EntryFit, entry-fields}
-use Rattle.slots.specs.declared.table_header.TableHeader.{TableHeader}
 use Rattle.slots.specs.declared.replica.Replica.{Replica}
-use Rattle.slots.specs.declared.listed.Listed.{Listed}
-use Rattle.slots.specs.TableHeaders.{TableHeaderFit, tableHeaderOf, tableHeaderAt, table-round, table-fields}
+use Rattle.slots.specs.TableHeaders.{TableHeaderFit, tableHeaderOf, table-round, table-fields}
 use Rattle.slots.specs.Replicas.{ReplicaFit, replicaBytes, replicaOf, replica-round, replica-fields}
 use Rattle.slots.specs.Listings.{ListedFit, listedBytes, listedOf, listed-round, listed-fields}
 use Rattle.document.specs.Tables.{Table, hasId, find, headOf?, headOf, headerOf, rows, slotsFrom, tableBytes, tableOf, tableInRange, replicaSlot, entrySlot, replicaIn, entryIn, replicasUsed, entriesUsed}

@@ -4,21 +4,20 @@ use mathlib.Core.Logic.{_⊎_, inl, inr}
 use mathlib.Core.Bool.{Bool, true, false, not, cond}
 use mathlib.Core.Option.{Option, some, none}
 use mathlib.Core.List.{List, [], _∷_}
-use Prim.Native.Nat.{ℕ, suc, _+_, _^_, _≤_, _<_}
+use Prim.Native.Nat.{ℕ, _+_, _^_, _≤_, _<_}
 use native.Mathlib.Omega.{arith}
 use lib.ListN.{length}
-use Rattle.codec.specs.Bytes.{chunk, splice, Bytes}
+use Rattle.codec.specs.Bytes.{splice, Bytes}
 use Rattle.numbers.specs.declared.clock.Ticked.{Ticked}
 use Rattle.numbers.specs.Clocks.{ticked}
 use Rattle.records.specs.declared.head.Head.{Head}
 use Rattle.slots.specs.declared.replica.Replica.{Replica}
 use Rattle.slots.specs.declared.listed.Listed.{Listed}
 use Rattle.slots.specs.declared.table_header.TableHeader.{TableHeader}
-use Rattle.slots.specs.TableHeaders.{tableHeaderBytes, tableHeaderAt, tableHeaderOf, TableHeaderFit}
+use Rattle.slots.specs.TableHeaders.{tableHeaderBytes, tableHeaderAt, TableHeaderFit}
 use Rattle.slots.specs.Replicas.{ReplicaFit}
 use Rattle.slots.specs.Listings.{ListedFit}
-use Rattle.document.specs.Tables.{Table, first, find, headOf?, headOf, headerOf, withHighest, withNext, tableBytes, tableOf}
-use Rattle.document.specs.Sound.{isHeld}
+use Rattle.document.specs.Tables.{Table, find, headOf, headerOf, withHighest, withNext, tableOf}
 use Rattle.document.specs.Steps.{put, joined, joinAll, setBy, placeEntry, strike, samePlace, issue, stampAt, clockAt, tooMany}
 use Rattle.views.specs.Lists.{same?}
 use Rattle.views.specs.Puts.{putOn, find-put-same, find-put-other}
@@ -26,7 +25,7 @@ use Rattle.steps.specs.Standing.{Each, Is, Stands, stands, moved, wide-o
 use Rattle.steps.specs.Writes.{header-rewritten}
 use Rattle.steps.specs.Putting.{hasSlot}
 use Rattle.steps.specs.Joining.{hasRoom}
-use Rattle.steps.specs.Room.{Room, crowd, room-of, of-room, room-put, room-joined, many-put, many-joined}
+use Rattle.steps.specs.Room.{Room, crowd, room-of, room-put, room-joined, many-put, many-joined}
 
 -- the head put, and its entries set
 abbrev pub stated : Head → Table → Table

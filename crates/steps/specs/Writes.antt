@@ -6,23 +6,21 @@ use mathlib.Core.List.{List, [], _∷_, _++_, append-assoc, append-nil}
 use Prim.Native.Nat.{ℕ, zero, suc, _+_, _*_, _-_, _≤_, _<_}
 use native.Mathlib.Nat.{add-assoc, add-zero, zero-add, suc-add, mul-zero, mul-suc, mul-le-mul-left}
 use native.Mathlib.Omega.{arith}
-use lib.Dec.{eqb}
 use lib.ListN.{length, take, drop, set, length-append, length-set, take-append-drop}
 use lib.Seq.{take-append-le, drop-append-le, take-append-add, drop-append-add, drop-at, drop-drop, length-take-le}
-use Rattle.codec.specs.Bytes.{chunk, splice, bytesOf, zeros, Bytes}
-use Rattle.codec.specs.Laws.{length-chunk, length-splice, bytes-chunk}
-use Rattle.codec.specs.Lists.{and-true}
+use Rattle.codec.specs.Bytes.{chunk, splice, bytesOf, zeros}
+use Rattle.codec.specs.Laws.{length-chunk, length-splice}
 use Rattle.records.specs.declared.head.Head.{Head}
 use Rattle.records.specs.Heads.{headBytes, length-headBytes}
 use Rattle.slots.specs.declared.replica.Replica.{Replica}
 use Rattle.slots.specs.declared.listed.Listed.{Listed}
-use Rattle.slots.specs.TableHeaders.{tableHeaderBytes, tableHeaderInRange, length-tableHeaderBytes}
-use Rattle.slots.specs.Replicas.{replicaBytes, replicaInRange, replica-back, length-replicaBytes}
+use Rattle.slots.specs.TableHeaders.{tableHeaderBytes, length-tableHeaderBytes}
+use Rattle.slots.specs.Replicas.{replicaBytes, length-replicaBytes}
 use Rattle.slots.specs.Listings.{listedBytes}
 use Rattle.document.specs.Layouts.{replicaLayout, listedLayout}
 use Rattle.document.specs.Steps.{renewed, putHead}
-use Rattle.document.specs.Tables.{Table, hasId, slotsFrom, withReplicas, withEntries, headerOf, rows, padded, tableBytes, replicaSlot, entrySlot, replicasUsed, entriesUsed, replicaIn, entryIn, everySlot, tableOf, tableInRange}
-use Rattle.document.specs.Rows.{Layout, length-rows, length-padded, length-slots, used-le}
+use Rattle.document.specs.Tables.{Table, hasId, slotsFrom, withReplicas, withEntries, headerOf, rows, padded, tableBytes, replicaSlot, entrySlot, replicasUsed, entriesUsed, replicaIn, tableOf}
+use Rattle.document.specs.Rows.{Layout, length-rows, length-padded}
 use Rattle.table.specs.declared.find.Found.the-variants.{At}
 use Rattle.table.specs.Slots.{firstSlot, found-slot}
 use Rattle.steps.specs.Standing.{Stands, replicas-held, entries-held, few-replicas, replica-bytes}

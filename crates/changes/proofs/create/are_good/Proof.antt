@@ -1,8 +1,7 @@
 -- `changes::create::are_good` meets its contract: test by test. Assumes nothing.
 use borrow.Author.Needs.{needs}
 use native.Mathlib.Omega.{arith}
-use mathlib.Core.Path.{_≡_, refl, ap, sym, subst, _∙_}
-use Prim.Native.Nat.{ℕ, _+_, _*_, _-_, _^_, _≤_, _<_}
+use Prim.Native.Nat.{_-_, _^_}
 use borrow.Author.Tests.{lt-ltb, le-ltb}
 use Rattle.codec.specs.Lists.{and-stop, and-go, passed, failed}
 use Rattle.changes.proofs.create.are_good.Statement.{statement}

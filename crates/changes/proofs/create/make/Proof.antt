@@ -1,14 +1,13 @@
 -- `changes::create::make` meets its contract. Assumes nothing.
 use borrow.Author.Needs.{needs}
 use native.Mathlib.Omega.{arith}
-use mathlib.Core.Path.{_≡_, refl, ap, sym, subst, _∙_}
-use Prim.Native.Nat.{ℕ, _+_, _*_, _-_, _^_, _≤_, _<_}
-use Rattle.answers.specs.Answers.{refuses, instead}
-use Rattle.document.specs.Tables.{tableOf}
+use mathlib.Core.Path.{ap, _∙_}
+use Prim.Native.Nat.{_-_}
+use Rattle.answers.specs.Answers.{instead}
 use Rattle.steps.specs.Standing.{sound-stands}
 use Rattle.numbers.specs.Nodes.{join, single}
 use Rattle.steps.specs.Standing.{stands, own-at}
-use Rattle.changes.specs.Working.{copy-stands, copy-clock, copy-own, own-few}
+use Rattle.changes.specs.Working.{copy-stands, copy-own, own-few}
 use Rattle.changes.specs.Creating.{make-changes, make-is, make-clock}
 use Rattle.changes.proofs.create.make.Statement.{statement}
 use Rattle.changes.proofs.create.make.Tie as tie

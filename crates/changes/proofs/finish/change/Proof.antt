@@ -1,14 +1,10 @@
 -- `changes::finish::change` meets its contract: no room, or the state stands in the copy. Assumes nothing.
 use borrow.Author.Needs.{needs}
-use native.Mathlib.Omega.{arith}
-use mathlib.Core.Path.{_≡_, refl, ap, sym, subst, _∙_}
-use Prim.Native.Nat.{ℕ, _+_, _*_, _-_, _≤_, _<_}
-use mathlib.Core.Bool.{Bool, false, true}
+use mathlib.Core.Path.{refl, ap, _∙_}
+use Prim.Native.Nat.{_-_}
 use Rattle.codec.specs.Lists.{passed, failed}
-use Rattle.document.specs.Tables.{tableOf}
 use Rattle.document.specs.Outcomes.{Outcome, tableAfter}
 use Rattle.answers.specs.Answers.{answerOf, refuses}
-use Rattle.steps.specs.States.{Made, stated}
 use Rattle.changes.specs.Finishing.{change-refused, change-next, change-last}
 use Rattle.changes.proofs.finish.change.Statement.{statement}
 use Rattle.changes.proofs.finish.change.Tie as tie

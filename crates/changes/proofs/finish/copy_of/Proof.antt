@@ -1,9 +1,8 @@
 -- `changes::finish::copy_of` meets its contract. Assumes nothing.
 use borrow.Author.Needs.{needs}
 use native.Mathlib.Omega.{arith}
-use mathlib.Core.Path.{_≡_, refl, ap, sym, subst, _∙_}
-use Prim.Native.Nat.{ℕ, _+_, _*_, _-_, _≤_, _<_}
-use lib.ListN.{length}
+use mathlib.Core.Path.{_∙_}
+use Prim.Native.Nat.{_-_}
 use Rattle.names.specs.Names.{splice-whole}
 use Rattle.changes.proofs.finish.copy_of.Statement.{statement}
 use Rattle.changes.proofs.finish.copy_of.Tie as tie

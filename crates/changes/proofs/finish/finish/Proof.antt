@@ -1,8 +1,8 @@
 -- `changes::finish::finish` meets its contract: the clock, the count, the versions, and the copy comes back. Assumes nothing.
 use borrow.Author.Needs.{needs}
 use native.Mathlib.Omega.{arith}
-use mathlib.Core.Path.{_≡_, refl, ap, sym, subst, _∙_}
-use Prim.Native.Nat.{ℕ, _+_, _*_, _-_, _≤_, _<_}
+use mathlib.Core.Path.{_≡_, refl, ap, _∙_}
+use Prim.Native.Nat.{_-_}
 use Rattle.codec.specs.Lists.{passed, failed}
 use Rattle.slots.specs.declared.table_header.TableHeader.{TableHeader}
 use Rattle.document.specs.Tables.{headerOf, tableOf}

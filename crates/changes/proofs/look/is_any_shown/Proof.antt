@@ -1,12 +1,12 @@
 -- `changes::look::is_any_shown` meets its contract. The loop's invariant: one passes exactly if one from i on does. Assumes nothing.
 use native.Mathlib.Omega.{arith}
-use mathlib.Core.Path.{_≡_, refl, ap, sym, subst, _∙_}
-use Prim.Native.Nat.{ℕ, _+_, _*_, _-_, _≤_, _<_}
+use mathlib.Core.Path.{_≡_, refl, sym, _∙_}
+use Prim.Native.Nat.{ℕ, _-_, _≤_}
 use Rattle.codec.specs.Lists.{or-stop, or-go}
-use Rattle.document.specs.Tables.{tableOf, entryIn, replicaIn}
-use Rattle.document.specs.Calls.{nameTaken, anyShown, liveChild}
-use Rattle.steps.specs.Standing.{few-entries, few-replicas}
-use Rattle.changes.specs.Looking.{anySlot, any-step, any-none, isTakenBy, isShownIn, isChildOf, shown-any}
+use Rattle.document.specs.Tables.{tableOf, entryIn}
+use Rattle.document.specs.Calls.{anyShown}
+use Rattle.steps.specs.Standing.{few-entries}
+use Rattle.changes.specs.Looking.{anySlot, any-step, any-none, isShownIn, shown-any}
 use borrow.Author.Needs.{needs}
 use Rattle.changes.proofs.look.is_any_shown.Statement.{statement}
 use Rattle.changes.proofs.look.is_any_shown.Tie as tie

@@ -1,12 +1,12 @@
 -- `changes::look::is_name_taken` meets its contract. The loop's invariant: one passes exactly if one from i on does. Assumes nothing.
 use native.Mathlib.Omega.{arith}
-use mathlib.Core.Path.{_≡_, refl, ap, sym, subst, _∙_}
-use Prim.Native.Nat.{ℕ, _+_, _*_, _-_, _≤_, _<_}
+use mathlib.Core.Path.{_≡_, refl, sym, _∙_}
+use Prim.Native.Nat.{ℕ, _-_, _≤_}
 use Rattle.codec.specs.Lists.{or-stop, or-go}
-use Rattle.document.specs.Tables.{tableOf, entryIn, replicaIn}
-use Rattle.document.specs.Calls.{nameTaken, anyShown, liveChild}
-use Rattle.steps.specs.Standing.{few-entries, few-replicas}
-use Rattle.changes.specs.Looking.{anySlot, any-step, any-none, isTakenBy, isShownIn, isChildOf, taken-any}
+use Rattle.document.specs.Tables.{tableOf, entryIn}
+use Rattle.document.specs.Calls.{nameTaken}
+use Rattle.steps.specs.Standing.{few-entries}
+use Rattle.changes.specs.Looking.{anySlot, any-step, any-none, isTakenBy, taken-any}
 use borrow.Author.Needs.{needs}
 use Rattle.changes.proofs.look.is_name_taken.Statement.{statement}
 use Rattle.changes.proofs.look.is_name_taken.Tie as tie

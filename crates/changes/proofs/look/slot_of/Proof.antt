@@ -1,8 +1,6 @@
 -- `changes::look::slot_of` meets its contract. Assumes nothing.
 use borrow.Author.Needs.{needs}
-use native.Mathlib.Omega.{arith}
-use mathlib.Core.Path.{_≡_, refl, ap, sym, subst, _∙_}
-use Prim.Native.Nat.{ℕ, _+_, _*_, _-_, _≤_, _<_}
+use Prim.Native.Nat.{_-_}
 use Rattle.changes.specs.Looking.{slot-large, slot-small}
 use Rattle.changes.proofs.look.slot_of.Statement.{statement}
 use Rattle.changes.proofs.look.slot_of.Tie as tie

@@ -1,8 +1,8 @@
 -- `changes::remove::remove` meets its contract. Assumes nothing.
 use borrow.Author.Needs.{needs}
 use native.Mathlib.Omega.{arith}
-use mathlib.Core.Path.{_≡_, refl, ap, sym, subst, _∙_}
-use Prim.Native.Nat.{ℕ, _+_, _*_, _-_, _^_, _≤_, _<_}
+use mathlib.Core.Path.{ap, sym, _∙_}
+use Prim.Native.Nat.{ℕ, _-_}
 use Rattle.answers.specs.Answers.{refuses, instead}
 use Rattle.document.specs.Tables.{tableOf}
 use Rattle.answers.specs.Answers.{sound-length}

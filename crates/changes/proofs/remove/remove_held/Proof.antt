@@ -1,10 +1,8 @@
 -- `changes::remove::remove_held` meets its contract: a live entry or a live child stands in the way. Assumes nothing.
 use borrow.Author.Needs.{needs}
-use native.Mathlib.Omega.{arith}
-use mathlib.Core.Path.{_≡_, refl, ap, sym, subst, _∙_}
-use Prim.Native.Nat.{ℕ, _+_, _*_, _-_, _^_, _≤_, _<_}
+use mathlib.Core.Path.{sym, _∙_}
+use Prim.Native.Nat.{_-_}
 use Rattle.answers.specs.Answers.{refuses, instead}
-use Rattle.document.specs.Tables.{tableOf}
 use Rattle.answers.specs.Answers.{sound-length}
 use Rattle.changes.specs.Killing.{remove-7, remove-8, remove-root, remove-shown, remove-child, remove-kills}
 use Rattle.changes.proofs.remove.remove_held.Statement.{statement}

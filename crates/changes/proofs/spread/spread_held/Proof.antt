@@ -1,10 +1,8 @@
 -- `changes::spread::spread_held` meets its contract. Assumes nothing.
 use borrow.Author.Needs.{needs}
-use native.Mathlib.Omega.{arith}
-use mathlib.Core.Path.{_≡_, refl, ap, sym, subst, _∙_}
-use Prim.Native.Nat.{ℕ, _+_, _*_, _-_, _^_, _≤_, _<_}
-use Rattle.answers.specs.Answers.{refuses, instead}
-use Rattle.document.specs.Tables.{tableOf}
+use mathlib.Core.Path.{ap, _∙_}
+use Prim.Native.Nat.{_-_}
+use Rattle.answers.specs.Answers.{instead}
 use Rattle.steps.specs.Standing.{sound-stands}
 use Rattle.numbers.specs.Nodes.{join}
 use Rattle.document.specs.Steps.{withHolders}

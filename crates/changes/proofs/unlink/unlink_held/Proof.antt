@@ -1,10 +1,8 @@
 -- `changes::unlink::unlink_held` meets its contract. Assumes nothing.
 use borrow.Author.Needs.{needs}
-use native.Mathlib.Omega.{arith}
-use mathlib.Core.Path.{_≡_, refl, ap, sym, subst, _∙_}
-use Prim.Native.Nat.{ℕ, _+_, _*_, _-_, _^_, _≤_, _<_}
+use mathlib.Core.Path.{sym}
+use Prim.Native.Nat.{_-_}
 use Rattle.answers.specs.Answers.{refuses, instead}
-use Rattle.document.specs.Tables.{tableOf}
 use Rattle.changes.specs.Killing.{unlink-7, unlink-8, unlink-kills}
 use Rattle.changes.proofs.unlink.unlink_held.Statement.{statement}
 use Rattle.changes.proofs.unlink.unlink_held.Tie as tie

@@ -1,7 +1,7 @@
 -- `service::receive::acknowledge` meets its contract. Assumes nothing.
 use borrow.Author.Needs.{needs}
 use native.Mathlib.Omega.{arith}
-use mathlib.Core.Path.{_≡_, refl, ap, sym, _∙_}
+use mathlib.Core.Path.{ap, _∙_}
 use Rattle.codec.specs.Bytes.{splice}
 use Rattle.messages.specs.declared.acknowledgement.Acknowledgement.{Acknowledgement}
 use Rattle.messages.specs.Acknowledgements.{ackBytes}

@@ -1,9 +1,7 @@
 -- `service::receive::merged` meets its contract: no room, or the copy comes back. Assumes nothing.
 use borrow.Author.Needs.{needs}
-use native.Mathlib.Omega.{arith}
-use mathlib.Core.Path.{_≡_, refl, ap, sym, _∙_}
+use mathlib.Core.Path.{refl}
 use Rattle.codec.specs.Lists.{passed, failed}
-use Rattle.document.specs.Outcomes.{Outcome}
 use Rattle.steps.specs.Standing.{sound-stands}
 use Rattle.answers.specs.Answers.{refuses, instead}
 use Rattle.service.specs.Receiving.{merging, merge-full, merge-ends, merge-last}

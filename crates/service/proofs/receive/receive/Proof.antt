@@ -1,7 +1,7 @@
 -- `service::receive::receive` meets its contract: 1, 2, 3, 4, and then the push is taken. Assumes nothing.
 use borrow.Author.Needs.{needs}
 use native.Mathlib.Omega.{arith}
-use mathlib.Core.Path.{_≡_, refl, ap, sym, _∙_}
+use mathlib.Core.Path.{ap, sym, _∙_}
 use Prim.Native.Nat.{ℕ}
 use lib.ListN.{length}
 use Rattle.codec.specs.Lists.{passed, failed}

@@ -1,6 +1,5 @@
 -- `steps::join::is_room` meets its contract. Assumes nothing.
 use native.Mathlib.Omega.{arith}
-use mathlib.Core.Path.{_≡_, refl, ap, sym, _∙_}
 use Rattle.steps.specs.Standing.{few-entries}
 use Rattle.steps.specs.Joining.{no-room, room-test}
 use Rattle.steps.proofs.join.is_room.Statement.{statement}

@@ -1,7 +1,7 @@
 -- `steps::join::join` meets its contract. Assumes nothing.
 use borrow.Author.Needs.{needs}
 use native.Mathlib.Omega.{arith}
-use mathlib.Core.Path.{_≡_, refl, ap, sym, _∙_}
+use mathlib.Core.Path.{ap, sym, _∙_}
 use Rattle.table.specs.declared.find.Found.{Found}
 use Rattle.document.specs.Tables.{entryIn}
 use Rattle.table.specs.Slots.{found-slot}

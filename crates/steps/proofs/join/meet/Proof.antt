@@ -1,7 +1,7 @@
 -- `steps::join::meet` meets its contract: the stamps, and then the flags. Assumes nothing.
 use borrow.Author.Needs.{needs}
 use native.Mathlib.Omega.{arith}
-use mathlib.Core.Path.{_≡_, refl, ap, sym, _∙_}
+use mathlib.Core.Path.{ap, _∙_}
 use Rattle.slots.specs.declared.listed.Listed.{Listed}
 use Rattle.steps.specs.Joining.{meets, meets-older, meets-newer, meets-same, meets-odd}
 use Rattle.steps.proofs.join.meet.Statement.{statement}

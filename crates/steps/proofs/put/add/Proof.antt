@@ -1,7 +1,6 @@
 -- `steps::put::add` meets its contract. Assumes nothing.
 use borrow.Author.Needs.{needs}
 use native.Mathlib.Omega.{arith}
-use mathlib.Core.Path.{_≡_, refl, ap, sym, _∙_}
 use Rattle.records.specs.Heads.{HeadFit}
 use Rattle.steps.specs.Standing.{moved, never, few-replicas}
 use Rattle.steps.specs.Putting.{put-full, put-next}

@@ -1,7 +1,7 @@
 -- `steps::put::put` meets its contract. Assumes nothing.
 use borrow.Author.Needs.{needs}
 use native.Mathlib.Omega.{arith}
-use mathlib.Core.Path.{_≡_, refl, ap, sym, _∙_}
+use mathlib.Core.Path.{ap, sym, _∙_}
 use Prim.Native.Nat.{ℕ}
 use Rattle.records.specs.Heads.{HeadFit}
 use Rattle.table.specs.Slots.{firstReplica}

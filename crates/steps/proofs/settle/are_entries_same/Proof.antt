@@ -1,9 +1,8 @@
 -- `steps::settle::are_entries_same` meets its contract. The loop's invariant: all are exactly if those from i on are.
 -- Assumes nothing.
 use native.Mathlib.Omega.{arith}
-use mathlib.Core.Path.{_≡_, refl, ap, sym, _∙_}
-use mathlib.Core.Bool.{Bool, true, false, _&&_, _||_, not}
-use Prim.Native.Nat.{ℕ, _+_, _-_, _*_, _≤_, _<_}
+use mathlib.Core.Path.{_≡_, refl, sym, _∙_}
+use Prim.Native.Nat.{_-_, _≤_}
 use native.Mathlib.Nat.{sub-zero}
 use Rattle.codec.specs.Lists.{and-stop, and-go, passed, failed}
 use Rattle.document.specs.Tables.{everySlot}

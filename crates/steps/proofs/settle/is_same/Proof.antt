@@ -1,13 +1,9 @@
 -- `steps::settle::is_same` meets its contract: a new replica, another head, or the entries. Assumes nothing.
 use borrow.Author.Needs.{needs}
 use native.Mathlib.Omega.{arith}
-use mathlib.Core.Path.{_≡_, refl, ap, sym, _∙_}
-use mathlib.Core.Bool.{Bool, true, false, _&&_, _||_, not}
-use Prim.Native.Nat.{ℕ, _+_, _-_, _*_, _≤_, _<_}
-use mathlib.Core.List.{List}
-use Rattle.codec.specs.Bytes.{sameBytes, chunk}
+use mathlib.Core.Path.{_∙_}
+use Prim.Native.Nat.{_-_}
 use Rattle.codec.specs.Lists.{passed, failed}
-use Rattle.document.specs.Tables.{everySlot}
 use Rattle.steps.specs.Standing.{few-replicas, few-entries}
 use Rattle.steps.specs.Settling.{same-parts, is-new, is-renewed, is-kept}
 use Rattle.steps.proofs.settle.is_same.Statement.{statement}

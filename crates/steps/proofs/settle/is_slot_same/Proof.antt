@@ -1,14 +1,10 @@
 -- `steps::settle::is_slot_same` meets its contract. Assumes nothing.
 use borrow.Author.Needs.{needs}
-use native.Mathlib.Omega.{arith}
-use mathlib.Core.Path.{_≡_, refl, ap, sym, _∙_}
-use mathlib.Core.Bool.{Bool, true, false, _&&_, _||_, not}
-use Prim.Native.Nat.{ℕ, _+_, _-_, _*_, _≤_, _<_}
-use mathlib.Core.List.{List}
-use lib.Dec.{eqb, ltb}
+use mathlib.Core.Path.{ap, sym, _∙_}
+use Prim.Native.Nat.{ℕ, _-_}
+use lib.Dec.{eqb}
 use borrow.Author.Tests.{eq-eqb, ne-eqb, lt-ltb, le-ltb}
-use Rattle.codec.specs.Bytes.{sameBytes, chunk}
-use Rattle.steps.specs.Settling.{isSlotSame, same-parts}
+use Rattle.steps.specs.Settling.{same-parts}
 use Rattle.steps.proofs.settle.is_slot_same.Statement.{statement}
 use Rattle.steps.proofs.settle.is_slot_same.Tie as tie
 

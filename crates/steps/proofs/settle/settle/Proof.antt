@@ -1,8 +1,8 @@
 -- `steps::settle::settle` meets its contract. The loop's invariant: the first i replicas are settled. Assumes nothing.
 use native.Mathlib.Omega.{arith}
-use mathlib.Core.Path.{_≡_, refl, ap, sym, _∙_}
-use mathlib.Core.Bool.{Bool, true, false, _&&_, _||_, not}
-use Prim.Native.Nat.{ℕ, _+_, _-_, _*_, _≤_, _<_}
+use mathlib.Core.Path.{_≡_, refl, sym}
+use mathlib.Core.Bool.{true}
+use Prim.Native.Nat.{_-_, _≤_}
 use Rattle.codec.specs.Lists.{passed, failed}
 use Rattle.document.specs.Tables.{tableOf, withReplicas}
 use Rattle.steps.specs.Standing.{Is, never}

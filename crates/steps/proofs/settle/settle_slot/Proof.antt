@@ -1,16 +1,14 @@
 -- `steps::settle::settle_slot` meets its contract: nothing changed, the last version, or the next. Assumes nothing.
 use borrow.Author.Needs.{needs}
 use native.Mathlib.Omega.{arith}
-use mathlib.Core.Path.{_≡_, refl, ap, sym, _∙_}
-use mathlib.Core.Bool.{Bool, true, false, _&&_, _||_, not}
-use Prim.Native.Nat.{ℕ, _+_, _-_, _*_, _≤_, _<_}
+use mathlib.Core.Path.{_≡_, ap, sym, _∙_}
+use Prim.Native.Nat.{_+_, _-_, _*_}
 use Rattle.numbers.specs.Nodes.{without}
 use Rattle.codec.specs.Bytes.{splice}
 use Rattle.slots.specs.declared.replica.Replica.{Replica}
 use Rattle.slots.specs.Replicas.{replicaBytes}
 use Rattle.steps.specs.Standing.{moved, never, few-replicas, own-at}
 use Rattle.steps.specs.Settling.{raised-is, slot-kept, slot-past, slot-raised}
-use Rattle.document.specs.Steps.{raised}
 use Rattle.document.specs.Tables.{tableOf}
 use Rattle.steps.proofs.settle.settle_slot.Statement.{statement}
 use Rattle.steps.proofs.settle.settle_slot.Tie as tie

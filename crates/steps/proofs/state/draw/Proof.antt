@@ -1,11 +1,9 @@
 -- `steps::state::draw` meets its contract: the clock, the stamp, and the header that is written. Assumes nothing.
 use borrow.Author.Needs.{needs}
 use native.Mathlib.Omega.{arith}
-use mathlib.Core.Path.{_≡_, refl, ap, sym, subst, _∙_}
-use Prim.Native.Nat.{ℕ, _+_, _^_, _≤_, _<_}
+use mathlib.Core.Path.{_≡_, ap, _∙_}
 use Rattle.slots.specs.declared.table_header.TableHeader.{TableHeader}
 use Rattle.document.specs.Tables.{tableOf, headerOf}
-use Rattle.numbers.specs.declared.clock.Ticked.{Ticked}
 use Rattle.steps.specs.Standing.{moved}
 use Rattle.steps.specs.States.{header-read, drawn}
 use Rattle.steps.proofs.state.draw.Statement.{statement}

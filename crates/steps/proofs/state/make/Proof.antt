@@ -1,8 +1,6 @@
 -- `steps::state::make` meets its contract. Assumes nothing.
 use borrow.Author.Needs.{needs}
-use native.Mathlib.Omega.{arith}
-use mathlib.Core.Path.{_≡_, refl, ap, sym, subst, _∙_}
-use Prim.Native.Nat.{ℕ, _+_, _^_, _≤_, _<_}
+use mathlib.Core.Path.{refl}
 use Rattle.codec.specs.Lists.{passed, failed}
 use Rattle.steps.specs.Standing.{stands}
 use Rattle.steps.specs.States.{put-full, then-make}

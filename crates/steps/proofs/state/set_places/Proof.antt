@@ -1,8 +1,6 @@
 -- `steps::state::set_places` meets its contract: the entry at the place, and the strike. Assumes nothing.
 use borrow.Author.Needs.{needs}
-use native.Mathlib.Omega.{arith}
-use mathlib.Core.Path.{_≡_, refl, ap, sym, subst, _∙_}
-use Prim.Native.Nat.{ℕ, _+_, _^_, _≤_, _<_}
+use mathlib.Core.Path.{refl, sym, _∙_}
 use Rattle.codec.specs.Lists.{passed, failed}
 use Rattle.steps.specs.Standing.{stands}
 use Rattle.steps.specs.States.{places-full, places-only, places-both}

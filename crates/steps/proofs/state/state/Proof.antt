@@ -1,8 +1,7 @@
 -- `steps::state::state` meets its contract: a new replica, or one that was another. Assumes nothing.
 use borrow.Author.Needs.{needs}
 use native.Mathlib.Omega.{arith}
-use mathlib.Core.Path.{_≡_, refl, ap, sym, subst, _∙_}
-use Prim.Native.Nat.{ℕ, _+_, _^_, _≤_, _<_}
+use mathlib.Core.Path.{refl, ap, sym, _∙_}
 use mathlib.Core.Option.{some}
 use Rattle.codec.specs.Lists.{passed, failed}
 use Rattle.steps.specs.Standing.{found-head, not-found}

@@ -1,8 +1,7 @@
 -- `steps::state::take_id` meets its contract: the id, and the header that is written. Assumes nothing.
 use borrow.Author.Needs.{needs}
 use native.Mathlib.Omega.{arith}
-use mathlib.Core.Path.{_≡_, refl, ap, sym, subst, _∙_}
-use Prim.Native.Nat.{ℕ, _+_, _^_, _≤_, _<_}
+use mathlib.Core.Path.{_≡_, ap, _∙_}
 use Rattle.slots.specs.declared.table_header.TableHeader.{TableHeader}
 use Rattle.document.specs.Tables.{tableOf, headerOf}
 use Rattle.numbers.specs.Ids.{idOf}
