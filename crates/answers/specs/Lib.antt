@@ -1,3 +1,4 @@
 pub mod Answers
+pub mod Contracts
 pub mod Held
 pub mod Outputs

@@ -13,9 +13,8 @@ ghost use mathlib.Core.Bool.{true};
 ghost use Prim.Native.Nat.{_≤_, _<_};
 ghost use Rattle.document.specs.Tables.{tableOf};
 ghost use Rattle.document.specs.Sound.{soundBytes};
-ghost use Rattle.document.specs.Outcomes.{tableAfter};
 ghost use Rattle.document.specs.Calls.{createIn};
-ghost use Rattle.answers.specs.Answers.{answerOf};
+ghost use Rattle.answers.specs.Contracts.{Answered, Leaves};
 ghost use Rattle.changes.specs.Creating.{areGood, bornHead, createdIn, Makes, makes};
 ghost use Rattle.changes.specs.Killing.{Takes};
 
@@ -39,8 +38,8 @@ fn born(kind: u8, id: u32, stamp: u64, holders: u8, p: Head, name: Name) -> Head
 // Makes the replica in the directory.
 fn make(table: &mut [u8], time: u64, p: Head, kind: u8, name: Name, set: u8) -> Answer
     requires { ⌜ Makes (now table) time p ⌝ }
-    ensures { λ r. ⌜ (r ≡ answerOf (makes time kind name set (tableOf (now (table .entry))) p))
-        × (now (table .exit) ≡ tableAfter (makes time kind name set (tableOf (now (table .entry))) p) (now (table .entry))) ⌝ }
+    ensures { λ r. ⌜ Leaves Answered (makes time kind name set (tableOf (now (table .entry))) p) r
+        (now (table .entry)) (now (table .exit)) ⌝ }
 {
     let mut copy = finish::copy_of(table);
     let id = state::take_id(&mut copy);
@@ -74,8 +73,8 @@ fn are_good(n: u8, time: u64, kind: u64, name: Name, set: u64) -> bool
 // Creates in what is held.
 fn create_in(table: &mut [u8], time: u64, p: Head, kind: u8, name: Name, set: u8) -> Answer
     requires { ⌜ Takes (now table) time p ⌝ }
-    ensures { λ r. ⌜ (r ≡ answerOf (createdIn time kind name set (tableOf (now (table .entry))) p))
-        × (now (table .exit) ≡ tableAfter (createdIn time kind name set (tableOf (now (table .entry))) p) (now (table .entry))) ⌝ }
+    ensures { λ r. ⌜ Leaves Answered (createdIn time kind name set (tableOf (now (table .entry))) p) r
+        (now (table .entry)) (now (table .exit)) ⌝ }
 {
     if p.live != 1 {
         return Answer {
@@ -114,9 +113,8 @@ pub fn create(
     set: u64,
 ) -> Answer
     requires { ⌜ soundBytes (now table) ≡ true ⌝ }
-    ensures { λ r. ⌜ (r ≡ answerOf (createIn time directory kind (now (name .entry)) set (tableOf (now (table .entry)))))
-        × (now (table .exit)
-        ≡ tableAfter (createIn time directory kind (now (name .entry)) set (tableOf (now (table .entry)))) (now (table .entry))) ⌝ }
+    ensures { λ r. ⌜ Leaves Answered (createIn time directory kind (now (name .entry)) set (tableOf (now (table .entry)))) r
+        (now (table .entry)) (now (table .exit)) ⌝ }
 {
     let given = Name::from(name);
     if !are_good(codec::get_u8(table, 3), time, kind, given, set) {

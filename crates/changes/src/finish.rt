@@ -6,12 +6,9 @@ use slots::TableHeader;
 use steps::settle;
 use steps::state;
 ghost use mathlib.Core.Path.{_≡_};
-ghost use Prim.Native.Nat.{_≤_};
 ghost use lib.ListN.{length};
 ghost use Rattle.document.specs.Tables.{tableOf};
-ghost use Rattle.document.specs.Outcomes.{tableAfter};
-ghost use Rattle.answers.specs.Answers.{answerOf};
-ghost use Rattle.steps.specs.States.{stated};
+ghost use Rattle.answers.specs.Contracts.{Answered, Leaves};
 ghost use Rattle.changes.specs.Finishing.{Ends, Changes, ended, changed};
 
 // As many bytes as a table has. The `ensures` gives only the length.
@@ -34,9 +31,8 @@ pub fn copy_of(table: &[u8]) -> [u8; 13344]
 // Ends a call whose steps are done on the copy.
 pub fn finish(table: &mut [u8], copy: &mut [u8], value: u32) -> Answer
     requires { ⌜ Ends (now table) (now copy) ⌝ }
-    ensures { λ r. ⌜ (r ≡ answerOf (ended value (tableOf (now (table .entry))) (tableOf (now (copy .entry)))))
-        × (now (table .exit)
-        ≡ tableAfter (ended value (tableOf (now (table .entry))) (tableOf (now (copy .entry)))) (now (table .entry))) ⌝ }
+    ensures { λ r. ⌜ Leaves Answered (ended value (tableOf (now (table .entry))) (tableOf (now (copy .entry)))) r
+        (now (table .entry)) (now (table .exit)) ⌝ }
 {
     let header = TableHeader::read(copy, 0);
     if 1099511627775 < header.highest {
@@ -64,9 +60,8 @@ pub fn finish(table: &mut [u8], copy: &mut [u8], value: u32) -> Answer
 // Sets the state on the copy and ends the call.
 pub fn change(table: &mut [u8], copy: &mut [u8], h: Head, value: u32) -> Answer
     requires { ⌜ Changes (now table) (now copy) h ⌝ }
-    ensures { λ r. ⌜ (r ≡ answerOf (changed value h (tableOf (now (table .entry))) (tableOf (now (copy .entry)))))
-        × (now (table .exit)
-        ≡ tableAfter (changed value h (tableOf (now (table .entry))) (tableOf (now (copy .entry)))) (now (table .entry))) ⌝ }
+    ensures { λ r. ⌜ Leaves Answered (changed value h (tableOf (now (table .entry))) (tableOf (now (copy .entry)))) r
+        (now (table .entry)) (now (table .exit)) ⌝ }
 {
     if !state::state(copy, h) {
         return Answer {

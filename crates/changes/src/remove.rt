@@ -10,16 +10,15 @@ ghost use mathlib.Core.Path.{_≡_};
 ghost use mathlib.Core.Bool.{true};
 ghost use Rattle.document.specs.Tables.{tableOf};
 ghost use Rattle.document.specs.Sound.{soundBytes};
-ghost use Rattle.document.specs.Outcomes.{tableAfter};
 ghost use Rattle.document.specs.Calls.{removeIn};
-ghost use Rattle.answers.specs.Answers.{answerOf};
+ghost use Rattle.answers.specs.Contracts.{Answered, Leaves};
 ghost use Rattle.changes.specs.Killing.{Takes};
 
 // Removes the directory.
 pub fn remove(table: &mut [u8], time: u64, id: u64) -> Answer
     requires { ⌜ soundBytes (now table) ≡ true ⌝ }
-    ensures { λ r. ⌜ (r ≡ answerOf (removeIn time id (tableOf (now (table .entry)))))
-        × (now (table .exit) ≡ tableAfter (removeIn time id (tableOf (now (table .entry)))) (now (table .entry))) ⌝ }
+    ensures { λ r. ⌜ Leaves Answered (removeIn time id (tableOf (now (table .entry)))) r
+        (now (table .entry)) (now (table .exit)) ⌝ }
 {
     if 1099511627775 < time {
         return Answer {
@@ -40,8 +39,8 @@ pub fn remove(table: &mut [u8], time: u64, id: u64) -> Answer
 // Removes what is held.
 fn remove_held(table: &mut [u8], time: u64, h: Head) -> Answer
     requires { ⌜ Takes (now table) time h ⌝ }
-    ensures { λ r. ⌜ (r ≡ answerOf (removeIn time (h .id) (tableOf (now (table .entry)))))
-        × (now (table .exit) ≡ tableAfter (removeIn time (h .id) (tableOf (now (table .entry)))) (now (table .entry))) ⌝ }
+    ensures { λ r. ⌜ Leaves Answered (removeIn time (h .id) (tableOf (now (table .entry)))) r
+        (now (table .entry)) (now (table .exit)) ⌝ }
 {
     if h.live != 1 {
         return Answer {

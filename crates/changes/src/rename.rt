@@ -13,9 +13,8 @@ ghost use Prim.Native.Nat.{_<_};
 ghost use Rattle.document.specs.Tables.{tableOf};
 ghost use Rattle.document.specs.Sound.{soundBytes};
 ghost use Rattle.document.specs.Steps.{withPlace};
-ghost use Rattle.document.specs.Outcomes.{tableAfter};
 ghost use Rattle.document.specs.Calls.{renameIn};
-ghost use Rattle.answers.specs.Answers.{answerOf};
+ghost use Rattle.answers.specs.Contracts.{Answered, Leaves};
 ghost use Rattle.changes.specs.Renaming.{Moves, moves, renamedIn, Renames};
 
 // The head at another place, with the stamp.
@@ -38,8 +37,8 @@ fn placed(h: Head, p: Head, name: Name, stamp: u64) -> Head
 // Moves the file to the directory, under the name.
 fn move_to(table: &mut [u8], time: u64, h: Head, p: Head, name: Name) -> Answer
     requires { ⌜ Moves (now table) time h p ⌝ }
-    ensures { λ r. ⌜ (r ≡ answerOf (moves time name (tableOf (now (table .entry))) h p))
-        × (now (table .exit) ≡ tableAfter (moves time name (tableOf (now (table .entry))) h p) (now (table .entry))) ⌝ }
+    ensures { λ r. ⌜ Leaves Answered (moves time name (tableOf (now (table .entry))) h p) r
+        (now (table .entry)) (now (table .exit)) ⌝ }
 {
     let mut copy = finish::copy_of(table);
     let stamp = state::draw(&mut copy, time);
@@ -49,8 +48,8 @@ fn move_to(table: &mut [u8], time: u64, h: Head, p: Head, name: Name) -> Answer
 // Renames what is held to a directory that is held.
 fn rename_held(table: &mut [u8], time: u64, h: Head, p: Head, name: Name) -> Answer
     requires { ⌜ Renames (now table) time h p ⌝ }
-    ensures { λ r. ⌜ (r ≡ answerOf (renamedIn time name (tableOf (now (table .entry))) h p))
-        × (now (table .exit) ≡ tableAfter (renamedIn time name (tableOf (now (table .entry))) h p) (now (table .entry))) ⌝ }
+    ensures { λ r. ⌜ Leaves Answered (renamedIn time name (tableOf (now (table .entry))) h p) r
+        (now (table .entry)) (now (table .exit)) ⌝ }
 {
     if h.live != 1 {
         return Answer {
@@ -94,9 +93,8 @@ fn rename_held(table: &mut [u8], time: u64, h: Head, p: Head, name: Name) -> Ans
 // Renames the file to the name in the directory.
 pub fn rename(table: &mut [u8], time: u64, id: u64, directory: u64, name: &[u8]) -> Answer
     requires { ⌜ soundBytes (now table) ≡ true ⌝ }
-    ensures { λ r. ⌜ (r ≡ answerOf (renameIn time id directory (now (name .entry)) (tableOf (now (table .entry)))))
-        × (now (table .exit)
-        ≡ tableAfter (renameIn time id directory (now (name .entry)) (tableOf (now (table .entry)))) (now (table .entry))) ⌝ }
+    ensures { λ r. ⌜ Leaves Answered (renameIn time id directory (now (name .entry)) (tableOf (now (table .entry)))) r
+        (now (table .entry)) (now (table .exit)) ⌝ }
 {
     if 1099511627775 < time {
         return Answer {

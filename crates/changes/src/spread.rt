@@ -13,9 +13,8 @@ ghost use Rattle.numbers.specs.Nodes.{join};
 ghost use Rattle.document.specs.Tables.{tableOf};
 ghost use Rattle.document.specs.Sound.{soundBytes};
 ghost use Rattle.document.specs.Steps.{withHolders};
-ghost use Rattle.document.specs.Outcomes.{tableAfter};
 ghost use Rattle.document.specs.Calls.{spreadIn};
-ghost use Rattle.answers.specs.Answers.{answerOf};
+ghost use Rattle.answers.specs.Contracts.{Answered, Leaves};
 ghost use Rattle.changes.specs.Spreading.{Spreads};
 
 // The head with other holders.
@@ -38,8 +37,8 @@ fn held_by(h: Head, holders: u8) -> Head
 // Spreads what is held.
 fn spread_held(table: &mut [u8], set: u8, h: Head) -> Answer
     requires { ⌜ Spreads (now table) set h ⌝ }
-    ensures { λ r. ⌜ (r ≡ answerOf (spreadIn (h .id) set (tableOf (now (table .entry)))))
-        × (now (table .exit) ≡ tableAfter (spreadIn (h .id) set (tableOf (now (table .entry)))) (now (table .entry))) ⌝ }
+    ensures { λ r. ⌜ Leaves Answered (spreadIn (h .id) set (tableOf (now (table .entry)))) r
+        (now (table .entry)) (now (table .exit)) ⌝ }
 {
     let mut copy = finish::copy_of(table);
     put::put(&mut copy, held_by(h, nodes::join(h.holders, set)));
@@ -49,8 +48,8 @@ fn spread_held(table: &mut [u8], set: u8, h: Head) -> Answer
 // Spreads the replica to the nodes of the set.
 pub fn spread(table: &mut [u8], id: u64, set: u64) -> Answer
     requires { ⌜ soundBytes (now table) ≡ true ⌝ }
-    ensures { λ r. ⌜ (r ≡ answerOf (spreadIn id set (tableOf (now (table .entry)))))
-        × (now (table .exit) ≡ tableAfter (spreadIn id set (tableOf (now (table .entry)))) (now (table .entry))) ⌝ }
+    ensures { λ r. ⌜ Leaves Answered (spreadIn id set (tableOf (now (table .entry)))) r
+        (now (table .entry)) (now (table .exit)) ⌝ }
 {
     if !nodes::is_set(codec::get_u8(table, 3), set) {
         return Answer {

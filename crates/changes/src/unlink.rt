@@ -9,10 +9,9 @@ ghost use mathlib.Core.Path.{_≡_};
 ghost use mathlib.Core.Bool.{true};
 ghost use Rattle.document.specs.Tables.{tableOf};
 ghost use Rattle.document.specs.Sound.{soundBytes};
-ghost use Rattle.document.specs.Outcomes.{tableAfter};
 ghost use Rattle.document.specs.Steps.{withState};
 ghost use Rattle.document.specs.Calls.{unlinkIn};
-ghost use Rattle.answers.specs.Answers.{answerOf};
+ghost use Rattle.answers.specs.Contracts.{Answered, Leaves};
 ghost use Rattle.changes.specs.Killing.{Kills, kills, Takes};
 
 // The head with another state: dead, with the stamp.
@@ -35,8 +34,8 @@ fn dead(h: Head, stamp: u64) -> Head
 // Gives the replica a new stamp, dead.
 pub fn kill(table: &mut [u8], time: u64, h: Head) -> Answer
     requires { ⌜ Kills (now table) time h ⌝ }
-    ensures { λ r. ⌜ (r ≡ answerOf (kills time (tableOf (now (table .entry))) h))
-        × (now (table .exit) ≡ tableAfter (kills time (tableOf (now (table .entry))) h) (now (table .entry))) ⌝ }
+    ensures { λ r. ⌜ Leaves Answered (kills time (tableOf (now (table .entry))) h) r
+        (now (table .entry)) (now (table .exit)) ⌝ }
 {
     let mut copy = finish::copy_of(table);
     let stamp = state::draw(&mut copy, time);
@@ -46,8 +45,8 @@ pub fn kill(table: &mut [u8], time: u64, h: Head) -> Answer
 // Unlinks the file.
 pub fn unlink(table: &mut [u8], time: u64, id: u64) -> Answer
     requires { ⌜ soundBytes (now table) ≡ true ⌝ }
-    ensures { λ r. ⌜ (r ≡ answerOf (unlinkIn time id (tableOf (now (table .entry)))))
-        × (now (table .exit) ≡ tableAfter (unlinkIn time id (tableOf (now (table .entry)))) (now (table .entry))) ⌝ }
+    ensures { λ r. ⌜ Leaves Answered (unlinkIn time id (tableOf (now (table .entry)))) r
+        (now (table .entry)) (now (table .exit)) ⌝ }
 {
     if 1099511627775 < time {
         return Answer {
@@ -68,8 +67,8 @@ pub fn unlink(table: &mut [u8], time: u64, id: u64) -> Answer
 // Unlinks what is held.
 fn unlink_held(table: &mut [u8], time: u64, h: Head) -> Answer
     requires { ⌜ Takes (now table) time h ⌝ }
-    ensures { λ r. ⌜ (r ≡ answerOf (unlinkIn time (h .id) (tableOf (now (table .entry)))))
-        × (now (table .exit) ≡ tableAfter (unlinkIn time (h .id) (tableOf (now (table .entry)))) (now (table .entry))) ⌝ }
+    ensures { λ r. ⌜ Leaves Answered (unlinkIn time (h .id) (tableOf (now (table .entry)))) r
+        (now (table .entry)) (now (table .exit)) ⌝ }
 {
     if h.live != 1 {
         return Answer {

@@ -1,4 +1,5 @@
 pub mod Acknowledging
+pub mod Determined
 pub mod Listing
 pub mod Pending
 pub mod Starting

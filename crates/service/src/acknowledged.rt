@@ -8,9 +8,8 @@ ghost use mathlib.Core.Path.{_≡_};
 ghost use mathlib.Core.Bool.{true};
 ghost use Rattle.document.specs.Tables.{tableOf};
 ghost use Rattle.document.specs.Sound.{soundBytes};
-ghost use Rattle.document.specs.Outcomes.{tableAfter};
 ghost use Rattle.document.specs.Calls.{acknowledged, clearIn};
-ghost use Rattle.answers.specs.Answers.{answerOf};
+ghost use Rattle.answers.specs.Contracts.{Answered, Leaves};
 ghost use Rattle.service.specs.Acknowledging.{isAck, Clears};
 
 // Whether the message is an acknowledgement in a cluster of n nodes.
@@ -29,8 +28,8 @@ fn is_acknowledgement(message: &[u8], n: u8) -> bool
 // Clears the sender's pending bit in replica slot i, where the acknowledgement's id was found.
 fn clear_slot(table: &mut [u8], a: Acknowledgement, i: usize) -> Answer
     requires { ⌜ Clears (now table) a i ⌝ }
-    ensures { λ r. ⌜ (r ≡ answerOf (clearIn (tableOf (now (table .entry))) a))
-        × (now (table .exit) ≡ tableAfter (clearIn (tableOf (now (table .entry))) a) (now (table .entry))) ⌝ }
+    ensures { λ r. ⌜ Leaves Answered (clearIn (tableOf (now (table .entry))) a) r
+        (now (table .entry)) (now (table .exit)) ⌝ }
 {
     let o = 32 + 48 * i;
     if codec::get_u32(table, o + 40) != a.version {
@@ -56,8 +55,8 @@ fn clear_slot(table: &mut [u8], a: Acknowledgement, i: usize) -> Answer
 // Takes the acknowledgement, in a sound table.
 fn clear(table: &mut [u8], a: Acknowledgement) -> Answer
     requires { ⌜ soundBytes (now table) ≡ true ⌝ }
-    ensures { λ r. ⌜ (r ≡ answerOf (clearIn (tableOf (now (table .entry))) a))
-        × (now (table .exit) ≡ tableAfter (clearIn (tableOf (now (table .entry))) a) (now (table .entry))) ⌝ }
+    ensures { λ r. ⌜ Leaves Answered (clearIn (tableOf (now (table .entry))) a) r
+        (now (table .entry)) (now (table .exit)) ⌝ }
 {
     if a.addressee != codec::get_u8(table, 2) {
         return Answer {
@@ -77,9 +76,8 @@ fn clear(table: &mut [u8], a: Acknowledgement) -> Answer
 
 // Takes an acknowledgement that came in.
 pub fn acknowledged(table: &mut [u8], message: &[u8]) -> Answer
-    ensures { λ r. ⌜ (r ≡ answerOf (acknowledged (now (table .entry)) (now (message .entry))))
-        × (now (table .exit) ≡ tableAfter (acknowledged (now (table .entry)) (now (message .entry)))
-        (now (table .entry))) ⌝ }
+    ensures { λ r. ⌜ Leaves Answered (acknowledged (now (table .entry)) (now (message .entry))) r
+        (now (table .entry)) (now (table .exit)) ⌝ }
 {
     if !table::is_sound(table) {
         return Answer {

@@ -1,15 +1,13 @@
 // The exported twins of the calls, for C and Rust: each answers number * 4294967296 + value.
-ghost use mathlib.Core.Path.{_≡_};
 ghost use lib.ListN.{length};
-ghost use Rattle.document.specs.Outcomes.{outputAfter, tableAfter};
 ghost use Rattle.document.specs.Calls.{acknowledged, create, list, pending, push, receive, remove, rename, spread, start, unlink};
-ghost use Rattle.answers.specs.Answers.{packed};
+ghost use Rattle.answers.specs.Contracts.{Leaves, LeavesAndWrites, Packed, Writes};
 
 #[no_mangle]
 pub extern "C" fn rumbezalo_start(table: &mut [u8], node: u64, n: u64) -> u64
     ensures { λ r.
-        ⌜ (r ≡ packed (start (now (table .entry)) node n))
-        × (now (table .exit) ≡ tableAfter (start (now (table .entry)) node n) (now (table .entry))) ⌝ }
+        ⌜ Leaves Packed (start (now (table .entry)) node n) r
+        (now (table .entry)) (now (table .exit)) ⌝ }
 {
     answers::pack(crate::start::start(table, node, n))
 }
@@ -17,15 +15,15 @@ pub extern "C" fn rumbezalo_start(table: &mut [u8], node: u64, n: u64) -> u64
 #[no_mangle]
 pub extern "C" fn rumbezalo_list(table: &[u8], id: u64, out: &mut [u8]) -> u64
     ensures { λ r.
-        ⌜ (r ≡ packed (list (now (table .entry)) id (length (now (out .entry)))))
-        × (now (out .exit) ≡ outputAfter (list (now (table .entry)) id (length (now (out .entry)))) (now (out .entry))) ⌝ }
+        ⌜ Writes Packed (list (now (table .entry)) id (length (now (out .entry)))) r
+        (now (out .entry)) (now (out .exit)) ⌝ }
 {
     answers::pack(crate::list::list(table, id, out))
 }
 
 #[no_mangle]
 pub extern "C" fn rumbezalo_pending(table: &[u8]) -> u64
-    ensures { λ r. ⌜ r ≡ packed (pending (now (table .entry))) ⌝ }
+    ensures { λ r. ⌜ Packed (pending (now (table .entry))) r ⌝ }
 {
     answers::pack(crate::pending::pending(table))
 }
@@ -33,9 +31,8 @@ pub extern "C" fn rumbezalo_pending(table: &[u8]) -> u64
 #[no_mangle]
 pub extern "C" fn rumbezalo_acknowledged(table: &mut [u8], message: &[u8]) -> u64
     ensures { λ r.
-        ⌜ (r ≡ packed (acknowledged (now (table .entry)) (now (message .entry))))
-        × (now (table .exit)
-        ≡ tableAfter (acknowledged (now (table .entry)) (now (message .entry))) (now (table .entry))) ⌝ }
+        ⌜ Leaves Packed (acknowledged (now (table .entry)) (now (message .entry))) r
+        (now (table .entry)) (now (table .exit)) ⌝ }
 {
     answers::pack(crate::acknowledged::acknowledged(table, message))
 }
@@ -50,9 +47,8 @@ pub extern "C" fn rumbezalo_create(
     set: u64,
 ) -> u64
     ensures { λ r.
-        ⌜ (r ≡ packed (create (now (table .entry)) time directory kind (now (name .entry)) set))
-        × (now (table .exit)
-        ≡ tableAfter (create (now (table .entry)) time directory kind (now (name .entry)) set) (now (table .entry))) ⌝ }
+        ⌜ Leaves Packed (create (now (table .entry)) time directory kind (now (name .entry)) set) r
+        (now (table .entry)) (now (table .exit)) ⌝ }
 {
     answers::pack(crate::tree::create(table, time, directory, kind, name, set))
 }
@@ -60,9 +56,8 @@ pub extern "C" fn rumbezalo_create(
 #[no_mangle]
 pub extern "C" fn rumbezalo_unlink(table: &mut [u8], time: u64, id: u64) -> u64
     ensures { λ r.
-        ⌜ (r ≡ packed (unlink (now (table .entry)) time id))
-        × (now (table .exit)
-        ≡ tableAfter (unlink (now (table .entry)) time id) (now (table .entry))) ⌝ }
+        ⌜ Leaves Packed (unlink (now (table .entry)) time id) r
+        (now (table .entry)) (now (table .exit)) ⌝ }
 {
     answers::pack(crate::tree::unlink(table, time, id))
 }
@@ -76,9 +71,8 @@ pub extern "C" fn rumbezalo_rename(
     name: &[u8],
 ) -> u64
     ensures { λ r.
-        ⌜ (r ≡ packed (rename (now (table .entry)) time id directory (now (name .entry))))
-        × (now (table .exit)
-        ≡ tableAfter (rename (now (table .entry)) time id directory (now (name .entry))) (now (table .entry))) ⌝ }
+        ⌜ Leaves Packed (rename (now (table .entry)) time id directory (now (name .entry))) r
+        (now (table .entry)) (now (table .exit)) ⌝ }
 {
     answers::pack(crate::tree::rename(table, time, id, directory, name))
 }
@@ -86,9 +80,8 @@ pub extern "C" fn rumbezalo_rename(
 #[no_mangle]
 pub extern "C" fn rumbezalo_remove(table: &mut [u8], time: u64, id: u64) -> u64
     ensures { λ r.
-        ⌜ (r ≡ packed (remove (now (table .entry)) time id))
-        × (now (table .exit)
-        ≡ tableAfter (remove (now (table .entry)) time id) (now (table .entry))) ⌝ }
+        ⌜ Leaves Packed (remove (now (table .entry)) time id) r
+        (now (table .entry)) (now (table .exit)) ⌝ }
 {
     answers::pack(crate::tree::remove(table, time, id))
 }
@@ -96,9 +89,8 @@ pub extern "C" fn rumbezalo_remove(table: &mut [u8], time: u64, id: u64) -> u64
 #[no_mangle]
 pub extern "C" fn rumbezalo_spread(table: &mut [u8], id: u64, set: u64) -> u64
     ensures { λ r.
-        ⌜ (r ≡ packed (spread (now (table .entry)) id set))
-        × (now (table .exit)
-        ≡ tableAfter (spread (now (table .entry)) id set) (now (table .entry))) ⌝ }
+        ⌜ Leaves Packed (spread (now (table .entry)) id set) r
+        (now (table .entry)) (now (table .exit)) ⌝ }
 {
     answers::pack(crate::tree::spread(table, id, set))
 }
@@ -106,9 +98,8 @@ pub extern "C" fn rumbezalo_spread(table: &mut [u8], id: u64, set: u64) -> u64
 #[no_mangle]
 pub extern "C" fn rumbezalo_push(table: &[u8], id: u64, node: u64, out: &mut [u8]) -> u64
     ensures { λ r.
-        ⌜ (r ≡ packed (push (now (table .entry)) id node (length (now (out .entry)))))
-        × (now (out .exit)
-        ≡ outputAfter (push (now (table .entry)) id node (length (now (out .entry)))) (now (out .entry))) ⌝ }
+        ⌜ Writes Packed (push (now (table .entry)) id node (length (now (out .entry)))) r
+        (now (out .entry)) (now (out .exit)) ⌝ }
 {
     answers::pack(crate::push::push(table, id, node, out))
 }
@@ -121,11 +112,8 @@ pub extern "C" fn rumbezalo_receive(
     out: &mut [u8],
 ) -> u64
     ensures { λ r.
-        ⌜ (r ≡ packed (receive (now (table .entry)) time (now (message .entry)) (length (now (out .entry)))))
-        × (now (table .exit)
-        ≡ tableAfter (receive (now (table .entry)) time (now (message .entry)) (length (now (out .entry)))) (now (table .entry)))
-        × (now (out .exit)
-        ≡ outputAfter (receive (now (table .entry)) time (now (message .entry)) (length (now (out .entry)))) (now (out .entry))) ⌝ }
+        ⌜ LeavesAndWrites Packed (receive (now (table .entry)) time (now (message .entry)) (length (now (out .entry)))) r
+        (now (table .entry)) (now (table .exit)) (now (out .entry)) (now (out .exit)) ⌝ }
 {
     answers::pack(crate::receive::receive(table, time, message, out))
 }

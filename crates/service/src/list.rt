@@ -11,9 +11,8 @@ ghost use lib.ListN.{length};
 ghost use Rattle.codec.specs.Bytes.{splice};
 ghost use Rattle.records.specs.Entries.{entryBytes};
 ghost use Rattle.document.specs.Tables.{headOf, rows, tableOf};
-ghost use Rattle.document.specs.Outcomes.{outputAfter};
 ghost use Rattle.document.specs.Calls.{list, listIn};
-ghost use Rattle.answers.specs.Answers.{answerOf};
+ghost use Rattle.answers.specs.Contracts.{Answered, Writes};
 ghost use Rattle.service.specs.Listing.{isShownIn, shownAt, shownIn};
 
 // Whether entry slot s is a live entry of the directory.
@@ -81,9 +80,8 @@ fn write_shown(t: &[u8], k: usize, directory: u32, out: &mut [u8]) -> usize
 // Lists what is held: its id and its head.
 fn list_held(t: &[u8], id: u32, h: Head, out: &mut [u8]) -> Answer
     requires { ⌜ (13344 ≤ length (now t)) × (headOf (tableOf (now t)) id ≡ some h) ⌝ }
-    ensures { λ r. ⌜ (r ≡ answerOf (listIn id (length (now (out .entry))) (tableOf (now (t .entry)))))
-        × (now (out .exit)
-        ≡ outputAfter (listIn id (length (now (out .entry))) (tableOf (now (t .entry)))) (now (out .entry))) ⌝ }
+    ensures { λ r. ⌜ Writes Answered (listIn id (length (now (out .entry))) (tableOf (now (t .entry)))) r
+        (now (out .entry)) (now (out .exit)) ⌝ }
 {
     if h.kind != 2 {
         if h.live != 1 {
@@ -120,9 +118,8 @@ fn list_held(t: &[u8], id: u32, h: Head, out: &mut [u8]) -> Answer
 
 // Writes the live entries of the directory at the front of `out`; the value is how many they are.
 pub fn list(table: &[u8], id: u64, out: &mut [u8]) -> Answer
-    ensures { λ r. ⌜ (r ≡ answerOf (list (now (table .entry)) id (length (now (out .entry)))))
-        × (now (out .exit)
-        ≡ outputAfter (list (now (table .entry)) id (length (now (out .entry)))) (now (out .entry))) ⌝ }
+    ensures { λ r. ⌜ Writes Answered (list (now (table .entry)) id (length (now (out .entry)))) r
+        (now (out .entry)) (now (out .exit)) ⌝ }
 {
     if !table::is_sound(table) {
         return Answer {

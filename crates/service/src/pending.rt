@@ -7,7 +7,7 @@ ghost use Prim.Native.Nat.{_+_, _*_, _≤_, _<_};
 ghost use lib.ListN.{length};
 ghost use Rattle.document.specs.Tables.{slotsFrom, replicaIn};
 ghost use Rattle.document.specs.Calls.{pending, pendingSum};
-ghost use Rattle.answers.specs.Answers.{answerOf};
+ghost use Rattle.answers.specs.Contracts.{Answered};
 
 // The sum of the pending bits of m replicas.
 fn pending_bits(t: &[u8], m: usize) -> u32
@@ -25,7 +25,7 @@ fn pending_bits(t: &[u8], m: usize) -> u32
 
 // The sum of pending bits over all replicas.
 pub fn pending(table: &[u8]) -> Answer
-    ensures { λ r. ⌜ r ≡ answerOf (pending (now (table .entry))) ⌝ }
+    ensures { λ r. ⌜ Answered (pending (now (table .entry))) r ⌝ }
 {
     if !table::is_sound(table) {
         return Answer {

@@ -5,21 +5,17 @@ use pushes::write;
 use slots::Replica;
 use table::find;
 use table::find::Found;
-ghost use mathlib.Core.Path.{_≡_};
 ghost use lib.ListN.{length};
 ghost use Rattle.document.specs.Tables.{tableOf};
-ghost use Rattle.document.specs.Outcomes.{outputAfter};
 ghost use Rattle.document.specs.Calls.{push, pushIn};
-ghost use Rattle.answers.specs.Answers.{answerOf};
+ghost use Rattle.answers.specs.Contracts.{Answered, Writes};
 ghost use Rattle.service.specs.Pushing.{Pushes};
 
 // Pushes a held replica to another node.
 fn push_held(t: &[u8], r: Replica, node: u8, out: &mut [u8]) -> Answer
     requires { ⌜ Pushes (now t) r node ⌝ }
-    ensures { λ a. ⌜ (a ≡ answerOf (pushIn (r .head .id) node (length (now (out .entry))) (tableOf (now (t .entry)))))
-        × (now (out .exit)
-        ≡ outputAfter (pushIn (r .head .id) node (length (now (out .entry))) (tableOf (now (t .entry))))
-        (now (out .entry))) ⌝ }
+    ensures { λ a. ⌜ Writes Answered (pushIn (r .head .id) node (length (now (out .entry))) (tableOf (now (t .entry)))) a
+        (now (out .entry)) (now (out .exit)) ⌝ }
 {
     let header = write::header_of(t, r, node);
     let size = write::size_of(header);
@@ -44,9 +40,8 @@ fn push_held(t: &[u8], r: Replica, node: u8, out: &mut [u8]) -> Answer
 
 // Writes the push of the replica for the node at the front of `out`; the value is its length.
 pub fn push(table: &[u8], id: u64, node: u64, out: &mut [u8]) -> Answer
-    ensures { λ r. ⌜ (r ≡ answerOf (push (now (table .entry)) id node (length (now (out .entry)))))
-        × (now (out .exit)
-        ≡ outputAfter (push (now (table .entry)) id node (length (now (out .entry)))) (now (out .entry))) ⌝ }
+    ensures { λ r. ⌜ Writes Answered (push (now (table .entry)) id node (length (now (out .entry)))) r
+        (now (out .entry)) (now (out .exit)) ⌝ }
 {
     if !table::is_sound(table) {
         return Answer {

@@ -11,18 +11,16 @@ ghost use Rattle.messages.specs.Acknowledgements.{ackBytes};
 ghost use Rattle.document.specs.Tables.{tableOf};
 ghost use Rattle.document.specs.Messages.{messageOf};
 ghost use Rattle.document.specs.Receive.{ackFor};
-ghost use Rattle.document.specs.Outcomes.{outputAfter, tableAfter};
 ghost use Rattle.document.specs.Calls.{receive, takeIn};
 ghost use Rattle.merge.specs.Merging.{Merges};
-ghost use Rattle.answers.specs.Answers.{answerOf};
+ghost use Rattle.answers.specs.Contracts.{Answered, Leaves, LeavesAndWrites, Writes};
 ghost use Rattle.service.specs.Receiving.{Received, Receives, mergedIn};
 
 // Merges the message into a copy, which comes back if there is room and nothing is past its end.
 fn merged(table: &mut [u8], time: u64, message: &[u8]) -> Answer
     requires { ⌜ Merges (now table) (now table) (now message) time ⌝ }
-    ensures { λ r. ⌜ (r ≡ answerOf (mergedIn time (tableOf (now (table .entry))) (messageOf (now (message .entry)))))
-        × (now (table .exit)
-        ≡ tableAfter (mergedIn time (tableOf (now (table .entry))) (messageOf (now (message .entry)))) (now (table .entry))) ⌝ }
+    ensures { λ r. ⌜ Leaves Answered (mergedIn time (tableOf (now (table .entry))) (messageOf (now (message .entry)))) r
+        (now (table .entry)) (now (table .exit)) ⌝ }
 {
     let mut copy = finish::copy_of(table);
     if !merge::merge(table, &mut copy, message, time) {
@@ -78,11 +76,8 @@ fn take(table: &mut [u8], time: u64, message: &[u8], out: &mut [u8]) -> Answer
 // Takes a push that came in; the acknowledgement is written at the front of `out`, and the value is its
 // length.
 pub fn receive(table: &mut [u8], time: u64, message: &[u8], out: &mut [u8]) -> Answer
-    ensures { λ r. ⌜ (r ≡ answerOf (receive (now (table .entry)) time (now (message .entry)) (length (now (out .entry)))))
-        × (now (table .exit)
-        ≡ tableAfter (receive (now (table .entry)) time (now (message .entry)) (length (now (out .entry)))) (now (table .entry)))
-        × (now (out .exit)
-        ≡ outputAfter (receive (now (table .entry)) time (now (message .entry)) (length (now (out .entry)))) (now (out .entry))) ⌝ }
+    ensures { λ r. ⌜ LeavesAndWrites Answered (receive (now (table .entry)) time (now (message .entry)) (length (now (out .entry)))) r
+        (now (table .entry)) (now (table .exit)) (now (out .entry)) (now (out .exit)) ⌝ }
 {
     if !table::is_sound(table) {
         return Answer {

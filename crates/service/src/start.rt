@@ -9,9 +9,8 @@ ghost use Prim.Native.Nat.{_≤_};
 ghost use lib.ListN.{length};
 ghost use Rattle.codec.specs.Bytes.{zeros};
 ghost use Rattle.document.specs.Tables.{fresh, tableBytes};
-ghost use Rattle.document.specs.Outcomes.{tableAfter};
 ghost use Rattle.document.specs.Calls.{start};
-ghost use Rattle.answers.specs.Answers.{answerOf};
+ghost use Rattle.answers.specs.Contracts.{Answered, Leaves, Writes};
 
 // Writes zeros over all of t.
 fn erase(t: &mut [u8])
@@ -47,8 +46,8 @@ fn refresh(t: &mut [u8], node: u8, n: u8)
 
 // Makes the table a fresh one.
 pub fn start(table: &mut [u8], node: u64, n: u64) -> Answer
-    ensures { λ r. ⌜ (r ≡ answerOf (start (now (table .entry)) node n))
-        × (now (table .exit) ≡ tableAfter (start (now (table .entry)) node n) (now (table .entry))) ⌝ }
+    ensures { λ r. ⌜ Leaves Answered (start (now (table .entry)) node n) r
+        (now (table .entry)) (now (table .exit)) ⌝ }
 {
     if table.len() != 13344 {
         return Answer {

@@ -1,10 +1,8 @@
 // The calls that change the tree: create, unlink, rename, remove, spread. The table is judged here; the
 // rest is done in `changes`.
 use answers::Answer;
-ghost use mathlib.Core.Path.{_≡_};
-ghost use Rattle.document.specs.Outcomes.{tableAfter};
 ghost use Rattle.document.specs.Calls.{create, unlink, rename, remove, spread};
-ghost use Rattle.answers.specs.Answers.{answerOf};
+ghost use Rattle.answers.specs.Contracts.{Answered, Leaves};
 
 // Creates a file (1) or a directory (2) with that name in the directory, for the nodes of the set; the
 // value is its id.
@@ -16,9 +14,8 @@ pub fn create(
     name: &[u8],
     set: u64,
 ) -> Answer
-    ensures { λ r. ⌜ (r ≡ answerOf (create (now (table .entry)) time directory kind (now (name .entry)) set))
-        × (now (table .exit)
-        ≡ tableAfter (create (now (table .entry)) time directory kind (now (name .entry)) set) (now (table .entry))) ⌝ }
+    ensures { λ r. ⌜ Leaves Answered (create (now (table .entry)) time directory kind (now (name .entry)) set) r
+        (now (table .entry)) (now (table .exit)) ⌝ }
 {
     if !table::is_sound(table) {
         return Answer {
@@ -31,8 +28,8 @@ pub fn create(
 
 // Unlinks the file.
 pub fn unlink(table: &mut [u8], time: u64, id: u64) -> Answer
-    ensures { λ r. ⌜ (r ≡ answerOf (unlink (now (table .entry)) time id))
-        × (now (table .exit) ≡ tableAfter (unlink (now (table .entry)) time id) (now (table .entry))) ⌝ }
+    ensures { λ r. ⌜ Leaves Answered (unlink (now (table .entry)) time id) r
+        (now (table .entry)) (now (table .exit)) ⌝ }
 {
     if !table::is_sound(table) {
         return Answer {
@@ -45,9 +42,8 @@ pub fn unlink(table: &mut [u8], time: u64, id: u64) -> Answer
 
 // Renames the file to the name in the directory.
 pub fn rename(table: &mut [u8], time: u64, id: u64, directory: u64, name: &[u8]) -> Answer
-    ensures { λ r. ⌜ (r ≡ answerOf (rename (now (table .entry)) time id directory (now (name .entry))))
-        × (now (table .exit)
-        ≡ tableAfter (rename (now (table .entry)) time id directory (now (name .entry))) (now (table .entry))) ⌝ }
+    ensures { λ r. ⌜ Leaves Answered (rename (now (table .entry)) time id directory (now (name .entry))) r
+        (now (table .entry)) (now (table .exit)) ⌝ }
 {
     if !table::is_sound(table) {
         return Answer {
@@ -60,8 +56,8 @@ pub fn rename(table: &mut [u8], time: u64, id: u64, directory: u64, name: &[u8])
 
 // Removes the directory.
 pub fn remove(table: &mut [u8], time: u64, id: u64) -> Answer
-    ensures { λ r. ⌜ (r ≡ answerOf (remove (now (table .entry)) time id))
-        × (now (table .exit) ≡ tableAfter (remove (now (table .entry)) time id) (now (table .entry))) ⌝ }
+    ensures { λ r. ⌜ Leaves Answered (remove (now (table .entry)) time id) r
+        (now (table .entry)) (now (table .exit)) ⌝ }
 {
     if !table::is_sound(table) {
         return Answer {
@@ -74,8 +70,8 @@ pub fn remove(table: &mut [u8], time: u64, id: u64) -> Answer
 
 // Spreads the replica to the nodes of the set.
 pub fn spread(table: &mut [u8], id: u64, set: u64) -> Answer
-    ensures { λ r. ⌜ (r ≡ answerOf (spread (now (table .entry)) id set))
-        × (now (table .exit) ≡ tableAfter (spread (now (table .entry)) id set) (now (table .entry))) ⌝ }
+    ensures { λ r. ⌜ Leaves Answered (spread (now (table .entry)) id set) r
+        (now (table .entry)) (now (table .exit)) ⌝ }
 {
     if !table::is_sound(table) {
         return Answer {

@@ -1,7 +1,6 @@
 -- `service::exports::rumbezalo_push` meets its contract: the call's answer in one number. Assumes nothing.
-use mathlib.Core.Path.{ap, _∙_}
 use borrow.Author.Needs.{needs}
-use Rattle.answers.specs.Answers.{packedAnswer}
+use Rattle.answers.specs.Contracts.{packs}
 use Rattle.service.proofs.exports.rumbezalo_push.Statement.{statement}
 use Rattle.service.proofs.exports.rumbezalo_push.Tie as tie
 
@@ -16,7 +15,7 @@ same-length c = search needs
 
 returns : tie.Need-returns
 returns c = (
-  c .pack .ensures ∙ ap packedAnswer (c .before .before .before .push .ensures .0),
+  packs (c .pack .ensures) (c .before .before .before .push .ensures .0),
   c .before .before
       .before .push .ensures .1,
 )

@@ -1,7 +1,6 @@
 -- `service::exports::rumbezalo_receive` meets its contract: the call's answer in one number. Assumes nothing.
 use borrow.Author.Needs.{needs}
-use mathlib.Core.Path.{ap, _∙_}
-use Rattle.answers.specs.Answers.{packedAnswer}
+use Rattle.answers.specs.Contracts.{packs}
 use Rattle.service.proofs.exports.rumbezalo_receive.Statement.{statement}
 use Rattle.service.proofs.exports.rumbezalo_receive.Tie as tie
 
@@ -18,7 +17,7 @@ same-length-2 : tie.Need-same-length-2
 same-length-2 c = search needs
 
 returns : tie.Need-returns
-returns c = (c .pack .ensures ∙ ap packedAnswer (c .before .before .before .before .before .receive .ensures .0), c .before .before .before .before .before .receive .ensures .1, c .before .before .before .before .before .receive .ensures .2)
+returns c = (packs (c .pack .ensures) (c .before .before .before .before .before .receive .ensures .0), c .before .before .before .before .before .receive .ensures .1, c .before .before .before .before .before .receive .ensures .2)
 
 pub rumbezalo-receive-spec : {M : Type 1} → statement M
 rumbezalo-receive-spec =

@@ -1,7 +1,6 @@
 -- `service::exports::rumbezalo_unlink` meets its contract: the call's answer in one number. Assumes nothing.
 use borrow.Author.Needs.{needs}
-use mathlib.Core.Path.{ap, _∙_}
-use Rattle.answers.specs.Answers.{packedAnswer}
+use Rattle.answers.specs.Contracts.{packs}
 use Rattle.service.proofs.exports.rumbezalo_unlink.Statement.{statement}
 use Rattle.service.proofs.exports.rumbezalo_unlink.Tie as tie
 
@@ -15,7 +14,7 @@ same-length : tie.Need-same-length
 same-length c = search needs
 
 returns : tie.Need-returns
-returns c = (c .pack .ensures ∙ ap packedAnswer (c .before .before .before .unlink .ensures .0), c .before .before .before .unlink .ensures .1)
+returns c = (packs (c .pack .ensures) (c .before .before .before .unlink .ensures .0), c .before .before .before .unlink .ensures .1)
 
 pub rumbezalo-unlink-spec : {M : Type 1} → statement M
 rumbezalo-unlink-spec =
