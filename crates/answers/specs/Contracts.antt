@@ -2,7 +2,7 @@
 -- lent, and that each form leaves one answer and one content of each buffer. Assumes nothing.
 use mathlib.Core.Path.{_≡_, sym, ap, _∙_}
 use mathlib.Core.List.{List}
-use Prim.Native.Nat.{ℕ, _+_, _*_, _<_}
+use Prim.Native.Nat.{ℕ, _<_}
 use native.Mathlib.Omega.{arith}
 use Rattle.document.specs.Outcomes.{Outcome, numberOf, valueOf, tableAfter, outputAfter}
 use Rattle.answers.specs.declared.Answer.{Answer}

@@ -3,25 +3,22 @@
 use mathlib.Core.Path.{_≡_, refl, ap, sym, _∙_}
 use mathlib.Core.Bool.{Bool, true, false, _&&_, _||_, not, cond}
 use mathlib.Core.Option.{Option, some, none}
-use mathlib.Core.List.{List, [], _∷_}
-use Prim.Native.Nat.{ℕ, _≤_, _<_}
+use mathlib.Core.List.{[], _∷_}
+use Prim.Native.Nat.{_≤_, _<_}
 use native.Mathlib.Omega.{arith}
-use lib.Dec.{eqb, ltb}
-use borrow.Author.Tests.{ne-eqb, lt-ltb, le-ltb, ltb-true}
+use lib.Dec.{eqb}
+use borrow.Author.Tests.{lt-ltb, le-ltb}
 use Rattle.codec.specs.Lists.{every, and-right}
 use Rattle.numbers.specs.Ids.{maker}
 use Rattle.records.specs.declared.head.Head.{Head}
 use Rattle.slots.specs.declared.listed.Listed.{Listed}
-use Rattle.document.specs.Tables.{Table, headOf, first, entryOf?, entryIn, entriesUsed, slotsFrom, tableOf}
-use Rattle.document.specs.Sound.{isDirectory, isHeld, sameKey}
-use Rattle.document.specs.Steps.{placeEntry, strike, samePlace, sameState, setBy, atOdds, oddJoin}
+use Rattle.document.specs.Tables.{Table, headOf}
+use Rattle.document.specs.Sound.{isDirectory, isHeld}
+use Rattle.document.specs.Steps.{placeEntry, strike, samePlace, sameState, setBy, oddJoin}
 use Rattle.document.specs.Receive.{oddHead, setIfMade, setIfTaken}
-use Rattle.table.specs.declared.find.Found.{Found}
-use Rattle.table.specs.declared.find.Found.the-variants.{At, Nothing}
-use Rattle.table.specs.Slots.{firstEntry, found-slot, no-slot}
 use Rattle.steps.specs.declared.join.Joined.{Joined}
 use Rattle.steps.specs.declared.join.Joined.the-variants.{Added, Replaced, Same, AtOdds}
-use Rattle.steps.specs.Joining.{meets, joinedAt, joinedIn, refusalOf}
+use Rattle.steps.specs.Joining.{refusalOf}
 use Rattle.judge.specs.Apart.{noneOdd}
 use Rattle.judge.specs.Judging.{isSteady, headAgrees, madeAgrees, firstAgrees}
 
@@ -69,54 +66,17 @@ agrees-absent t h r e q =
 
 -- ---- joins
 
--- the case that a message is refused for
-abbrev isOdd : Joined → Bool
-isOdd o = eqb (refusalOf o) 13
+-- a join is refused with 13, or not, by the case that it comes to
+pub join-odd : (o : Joined) (b : Bool) → refusalOf o ≡ cond b 13 0 → o ≡ AtOdds → false ≡ not b
+join-odd o true q e = refl
+join-odd o false q e = absurd (omega (arith, sym (ap refusalOf e) ∙ q))
 
--- one of another stamp is not at odds
-meets-odd : (x y : Listed) (s : ℕ) → isOdd (meets x y s) ≡ atOdds x (some (y .entry))
-meets-odd x y s = go (ltb (y .entry .stamp) (x .entry .stamp)) refl
-  where
-    flag : (b : Bool) → isOdd (cond b AtOdds Same) ≡ b
-    flag true = refl
-    flag false = refl
-
-    go : (a : Bool) → ltb (y .entry .stamp) (x .entry .stamp) ≡ a →
-        isOdd (cond a (Replaced s) (cond (atOdds x (some (y .entry))) AtOdds Same)) ≡ atOdds x (some (y .entry))
-    go true e =
-        let older = ltb-true (y .entry .stamp) (x .entry .stamp) e in
-        let other = ne-eqb (y .entry .stamp) (x .entry .stamp) (λ z. omega (arith, z)) in
-        ap (λ (b : Bool). b && not (eqb (y .entry .live) (x .entry .live))) (sym other)
-    go false e = flag (atOdds x (some (y .entry)))
-
--- what the join comes to says whether it is at odds
-join-is : (l : List ℕ) (k : ℕ) (x : Listed) → k ≡ entriesUsed l → isOdd (joinedIn l k x) ≡ oddJoin x (tableOf l)
-unfolding tableOf
-join-is l k x u = go slot refl ∙ ap (λ (n : ℕ). atOdds x (entryOf? (first (sameKey x) (slotsFrom (entryIn l) 0 n)))) u
-  where
-    slot : Found
-    slot = firstEntry l k (x .directory) (x .entry .child) (x .entry .name)
-
-    go : (s : Found) → slot ≡ s →
-        isOdd (joinedAt s (entryIn l) x) ≡ atOdds x (entryOf? (first (sameKey x) (slotsFrom (entryIn l) 0 k)))
-    go Nothing e = ap (λ (o : Option Listed). atOdds x (entryOf? o)) (sym (no-slot (sameKey x) (entryIn l) 0 k e))
-    go (At i) e =
-        meets-odd x (entryIn l i) i
-        ∙ ap (λ (o : Option Listed). atOdds x (entryOf? o)) (sym (found-slot (sameKey x) (entryIn l) 0 k i e .2))
-
-pub join-odd : (l : List ℕ) (k : ℕ) (x : Listed) (o : Joined) → k ≡ entriesUsed l → o ≡ joinedIn l k x → o ≡ AtOdds →
-    false ≡ not (oddJoin x (tableOf l))
-join-odd l k x o u e q = ap (λ (z : Joined). not (isOdd z)) (sym q ∙ e) ∙ ap not (join-is l k x u)
-
-pub join-even : (l : List ℕ) (k : ℕ) (x : Listed) (o : Joined) → k ≡ entriesUsed l → o ≡ joinedIn l k x →
-    (o ≡ AtOdds → ⊥) → true ≡ not (oddJoin x (tableOf l))
-join-even l k x o u e n = even o n ∙ ap (λ (z : Joined). not (isOdd z)) e ∙ ap not (join-is l k x u)
-  where
-    even : (z : Joined) → (z ≡ AtOdds → ⊥) → true ≡ not (isOdd z)
-    even Added h = refl
-    even (Replaced s) h = refl
-    even Same h = refl
-    even AtOdds h = absurd (h refl)
+pub join-even : (o : Joined) (b : Bool) → refusalOf o ≡ cond b 13 0 → (o ≡ AtOdds → ⊥) → true ≡ not b
+join-even o false q n = refl
+join-even AtOdds true q n = absurd (n refl)
+join-even Added true q n = absurd (omega (arith, q))
+join-even (Replaced s) true q n = absurd (omega (arith, q))
+join-even Same true q n = absurd (omega (arith, q))
 
 -- ---- what a state sets
 

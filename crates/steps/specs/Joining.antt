@@ -365,3 +365,18 @@ join-refused l x = go (firstEntry l (entriesUsed l) (x .directory) (x .entry .ch
         (eqb (entryIn l i .entry .stamp) (x .entry .stamp)) refl
         (not (eqb (entryIn l i .entry .live) (x .entry .live)))
         ∙ ap (λ (o : Option Listed). cond (atOdds x (entryOf? o)) 13 0) (sym (key-there l x i f))
+
+-- what `join` answers: the case, and what it means by the two definitions
+abbrev pub Joins : List ℕ → Listed → Joined → Type 0
+Joins l x r =
+    (r ≡ joinedIn l (entriesUsed l) x)
+    × (entriesAfter r x (tableOf l .entries) ≡ joinInto x (tableOf l .entries))
+    × (refusalOf r ≡ cond (oddJoin x (tableOf l)) 13 0)
+
+pub joins-so : (l : List ℕ) (k : ℕ) (x : Listed) {r : Joined} → k ≡ entriesUsed l → r ≡ joinedIn l k x → Joins l x r
+joins-so l k x u e =
+    let case = e ∙ ap (λ (n : ℕ). joinedIn l n x) u in (
+      case,
+      ap (λ (o : Joined). entriesAfter o x (tableOf l .entries)) case ∙ join-means l x,
+      ap refusalOf case ∙ join-refused l x,
+    )

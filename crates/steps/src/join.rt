@@ -10,7 +10,7 @@ ghost use lib.ListN.{length};
 ghost use Rattle.document.specs.Tables.{entryIn, entriesUsed, tableOf};
 ghost use Rattle.document.specs.Steps.{joined};
 ghost use Rattle.steps.specs.Standing.{Is, Stands};
-ghost use Rattle.steps.specs.Joining.{meets, joinedIn, hasRoom, isRoom, slotOf, bytesAfter};
+ghost use Rattle.steps.specs.Joining.{Joins, meets, hasRoom, isRoom, slotOf, bytesAfter};
 
 // What a join comes to: the entry is added behind the others, or replaces the one in a slot, or finds
 // itself there, or a newer one; or stands with its stamp and another flag.
@@ -39,10 +39,10 @@ fn meet(t: &[u8], s: usize, x: Listed) -> Joined
     Joined::AtOdds
 }
 
-// What the join of the entry with those in k slots comes to.
+// What the join of the entry with those in the k used slots comes to.
 pub fn join(t: &[u8], k: usize, x: Listed) -> Joined
-    requires { ⌜ (13344 ≤ length (now t)) × (k ≤ 256) ⌝ }
-    ensures { λ r. ⌜ r ≡ joinedIn (now (t .entry)) k x ⌝ }
+    requires { ⌜ (13344 ≤ length (now t)) × (k ≡ entriesUsed (now t)) ⌝ }
+    ensures { λ r. ⌜ Joins (now (t .entry)) x r ⌝ }
 {
     let found = find::entry(t, k, x.directory, x.entry.child, x.entry.name);
     let Found::At(s) = found else {

@@ -8,10 +8,11 @@ use Prim.Native.Nat.{ℕ}
 use native.Mathlib.Omega.{arith}
 use types.Run.{OneOf}
 use denote.Enum.Declared.{tagOf}
+use Rattle.document.specs.Tables.{tableOf}
+use Rattle.document.specs.Steps.{oddJoin}
 use Rattle.steps.proofs.join.Joined.{the-type}
 use Rattle.steps.specs.declared.join.Joined.{Joined}
 use Rattle.steps.specs.declared.join.Joined.the-variants.{AtOdds}
-use Rattle.steps.specs.Standing.{few-entries}
 use Rattle.judge.specs.Deciding.{join-odd, join-even}
 use Rattle.judge.proofs.joins.agrees.Statement.{statement}
 use Rattle.judge.proofs.joins.agrees.Tie as tie
@@ -24,7 +25,7 @@ not-odd {o} h e =
     (λ f. ⊎-elim (λ k. absurd (omega (arith, k, tag))) (λ k. absurd (omega (arith, k, tag))) f) h
 
 join-requires : tie.Need-join-requires
-join-requires c κs = (c .before .pre .0, omega (arith, c .before .pre .1, few-entries (c .before .args .t .now)))
+join-requires c κs = c .before .pre
 
 enum-told : tie.Need-enum-told
 enum-told c = search needs
@@ -32,15 +33,13 @@ enum-told c = search needs
 returns : tie.Need-returns
 returns c =
     let a = c .before .before .before .args in
-    let pre = c .before .before .before .pre in
-    join-even (a .t .now) (a .k) (a .x) _ (pre .1) (c .before .join .ensures) (not-odd (c .match .keys2))
+    join-even (c .before .join .result) (oddJoin (a .x) (tableOf (a .t .now))) (c .before .join .ensures .2) (not-odd (c .match .keys2))
 
 returns-2 : tie.Need-returns-2
 returns-2 c =
     let a = c .before .before .before .before .args in
-    let pre = c .before .before .before .before .pre in
     let join = c .before .before .join in
-    join-odd (a .t .now) (a .k) (a .x) _ (pre .1) (join .ensures) (c .enum-told .given .1)
+    join-odd (join .result) (oddJoin (a .x) (tableOf (a .t .now))) (join .ensures .2) (c .enum-told .given .1)
 
 pub agrees-spec : {M : Type 1} → statement M
 agrees-spec = tie.close (tie.spec join-requires enum-told returns returns-2)
