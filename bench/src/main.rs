@@ -1,32 +1,25 @@
-//! Times the calls of the library beside those of the Rust program, on the same tables and messages, in one
-//! run, and prints both times and their ratio. A time says nothing by itself: only the ratio does.
+//! Times the calls of the library beside those of the Rust program, on the same tables and messages,
+//! in one run, and prints both times and their ratio. A time says nothing by itself: only the ratio
+//! does.
 
-use rumbezalo_model::calls::{self, Answer};
-use rumbezalo_model::table::{judge, Table};
+#[path = "../../bindings/rust/tests/common/asked.rs"]
+mod asked;
+
+use asked::by_library;
+use rumbezalo_model::asked::Call;
+use rumbezalo_model::calls::{self, Answer, Service};
+use rumbezalo_model::records::Kind;
+use rumbezalo_model::table::{judge, Replica, Table};
+use rumbezalo_model::variant::Variant;
 use std::hint::black_box;
 use std::time::Instant;
 
-extern "C" {
-    fn rumbezalo_create(
-        table: *mut u8, length: usize, time: u64, directory: u64, kind: u64, name: *const u8, size: usize, set: u64,
-    ) -> u64;
-    fn rumbezalo_unlink(table: *mut u8, length: usize, time: u64, id: u64) -> u64;
-    fn rumbezalo_rename(
-        table: *mut u8, length: usize, time: u64, id: u64, directory: u64, name: *const u8, size: usize,
-    ) -> u64;
-    fn rumbezalo_remove(table: *mut u8, length: usize, time: u64, id: u64) -> u64;
-    fn rumbezalo_spread(table: *mut u8, length: usize, id: u64, set: u64) -> u64;
-    fn rumbezalo_list(table: *const u8, length: usize, id: u64, out: *mut u8, room: usize) -> u64;
-    fn rumbezalo_push(table: *const u8, length: usize, id: u64, node: u64, out: *mut u8, room: usize) -> u64;
-    fn rumbezalo_receive(
-        table: *mut u8, length: usize, time: u64, message: *const u8, size: usize, out: *mut u8, room: usize,
-    ) -> u64;
-    fn rumbezalo_acknowledged(table: *mut u8, length: usize, message: *const u8, size: usize) -> u64;
-    fn rumbezalo_pending(table: *const u8, length: usize) -> u64;
-}
-
 /// The room that every call is given to write to: the longest push fits.
 const ROOM: usize = 2048;
+
+const RUST: Service = Service {
+    variant: Variant::Right,
+};
 
 /// What a call works on.
 struct Bed {
@@ -34,154 +27,307 @@ struct Bed {
     out: Vec<u8>,
 }
 
-/// One call, as the library makes it and as the Rust program does: each answers number * 2^32 + value.
-struct Case<'a> {
-    call: &'static str,
-    table: &'a [u8],
-    library: Box<dyn Fn(&mut Bed) -> u64 + 'a>,
-    rust: Box<dyn Fn(&mut Bed) -> Answer + 'a>,
+impl Bed {
+    fn with(table: &[u8]) -> Bed {
+        Bed {
+            table: table.to_vec(),
+            out: vec![0xA5; ROOM],
+        }
+    }
 }
 
-/// A fresh table; one half full; and a full one: 64 replicas, 256 entries, files down to depth 16.
-fn tables() -> Vec<(&'static str, Vec<u8>)> {
-    let fresh = Table::fresh(1, 8).bytes();
-    vec![
-        ("fresh", fresh.clone()),
-        ("half full", filled(fresh.clone(), 32, 128)),
-        ("full", filled(fresh, 64, 256)),
-    ]
+/// One call on one table.
+struct Case {
+    label: &'static str,
+    table: Vec<u8>,
+    call: Call,
 }
 
-/// Makes a chain of fifteen directories below the root and then files until there are so many replicas, and moves
-/// files from directory to directory until there are so many entries.
-fn filled(mut table: Vec<u8>, replicas: usize, entries: usize) -> Vec<u8> {
-    let made = |table: &mut Vec<u8>, directory: u32, kind: u64, name: String| {
+fn case(label: &'static str, table: &[u8], call: Call) -> Case {
+    Case {
+        label,
+        table: table.to_vec(),
+        call,
+    }
+}
+
+// ---- the tables
+
+fn replicas(table: &[u8]) -> Vec<Replica> {
+    judge(table).expect("a sound table").replicas
+}
+
+/// How many entries there are in a directory, or in all.
+fn entries(table: &[u8], directory: Option<u32>) -> usize {
+    let table = judge(table).expect("a sound table");
+    let counted = |id: u32| directory.is_none() || directory == Some(id);
+    table
+        .entries
+        .iter()
+        .filter(|slot| counted(slot.directory))
+        .count()
+}
+
+/// A call that must be done, and its value.
+fn done(what: &str, answer: Answer) -> u32 {
+    assert_eq!(answer.number, 0, "{what}");
+    answer.value
+}
+
+/// A table with so many replicas and entries: a chain of fifteen directories below the root, the
+/// deepest with 32 entries, and files, most of them in the deepest directory, at depth 16. The others
+/// are moved from directory to directory. The last file has been at "moved" in the root and in the
+/// deepest directory, so that to move it there needs no slot.
+fn filled(replicas: usize, entries_in_all: usize) -> Vec<u8> {
+    let mut table = Table::fresh(1, 8).bytes();
+    let make = |table: &mut Vec<u8>, directory: u32, kind: u64, name: String| {
         let answer = calls::create(table, 1, directory.into(), kind, name.as_bytes(), 0xFF);
-        assert_eq!(answer.number, 0, "create {name}");
-        answer.value
+        done("create", answer)
     };
     let mut directories = vec![0];
     for depth in 1..16 {
-        let above = *directories.last().expect("the root");
-        directories.push(made(&mut table, above, 2, format!("d{depth}")));
+        let above = directories[depth - 1];
+        directories.push(make(&mut table, above, 2, format!("d{depth}")));
     }
+    let deepest = directories[15];
+    let count = replicas - directories.len();
+    let staying = (count * 2 / 3).min(31);
     let mut files = Vec::new();
-    while 1 + directories.len() - 1 + files.len() < replicas {
-        let into = directories[directories.len() - 1 - files.len() % 8];
-        files.push(made(&mut table, into, 1, format!("f{}", files.len())));
+    for file in 0..count {
+        let into = if file < staying {
+            deepest
+        } else {
+            directories[file % 15]
+        };
+        files.push(u64::from(make(&mut table, into, 1, format!("f{file}"))));
     }
-    // The last file has been at the place where the timed rename takes it, so that this needs no slot.
-    let last = u64::from(*files.last().expect("a file"));
-    assert_eq!(calls::rename(&mut table, 1, last, 0, b"moved").number, 0, "rename");
+    let last = files[count - 1];
+    done(
+        "move",
+        calls::rename(&mut table, 1, last, deepest.into(), b"moved"),
+    );
+    done("move", calls::rename(&mut table, 1, last, 0, b"moved"));
     let mut step = 0;
-    while judge(&table).expect("a sound table").entries.len() < entries {
-        let file = files[step % files.len()];
-        let into = directories[(step * 7 + step / files.len()) % directories.len()];
+    while entries(&table, Some(deepest)) < 32 {
+        let name = format!("s{step}");
+        let file = files[step % staying];
+        done(
+            "move",
+            calls::rename(&mut table, 1, file, deepest.into(), name.as_bytes()),
+        );
+        step += 1;
+    }
+    let moving = &files[staying..];
+    while entries(&table, None) < entries_in_all {
+        let file = moving[step % moving.len()];
+        let into = directories[(step * 7 + step / moving.len()) % 15];
         let name = format!("m{step}");
-        let _ = calls::rename(&mut table, 1, file.into(), into.into(), name.as_bytes());
+        // Refused where the directory is full.
+        let _ = calls::rename(&mut table, 1, file, into.into(), name.as_bytes());
         step += 1;
     }
     table
 }
 
+/// The deepest directory of a table that was filled.
+fn deepest(table: &[u8]) -> u64 {
+    let chain = replicas(table).into_iter().map(|replica| replica.head);
+    let found = chain
+        .filter(|head| head.kind == Kind::Directory)
+        .max_by_key(|head| head.depth);
+    found.expect("the root").id.into()
+}
+
+/// The file that was made last; in a fresh table, the root.
+fn last(table: &[u8]) -> u64 {
+    replicas(table).pop().expect("the root").head.id.into()
+}
+
+/// What a node writes to node 2; nothing, if nothing is pending.
+fn pushed(table: &[u8], id: u64) -> Vec<u8> {
+    let mut push = vec![0; ROOM];
+    let answer = calls::push(table, id, 2, &mut push);
+    push.truncate(answer.value as usize);
+    push
+}
+
 /// Lets node 2 hear all that node 1 has to tell it: its table then.
 fn told(table: &mut [u8]) -> Vec<u8> {
     let mut other = Table::fresh(2, 8).bytes();
-    for replica in judge(table).expect("a sound table").replicas {
-        let (mut push, mut back) = (vec![0; ROOM], vec![0; 16]);
-        let written = calls::push(table, replica.head.id.into(), 2, &mut push);
-        if written.number == 0 {
-            push.truncate(written.value as usize);
-            assert_eq!(calls::receive(&mut other, 1, &push, &mut back).number, 0, "receive");
-            assert_eq!(calls::acknowledged(table, &back).number, 0, "acknowledged");
+    for replica in replicas(table) {
+        let (push, mut back) = (pushed(table, replica.head.id.into()), vec![0; 16]);
+        if !push.is_empty() {
+            done("receive", calls::receive(&mut other, 1, &push, &mut back));
+            done("acknowledged", calls::acknowledged(table, &back));
         }
     }
     other
 }
 
-/// The calls on one table: node 1's, and for receive node 2's, which has heard all but the last move of a file.
-fn cases<'a>(table: &'a [u8], before: &'a [u8], other: &'a [u8], file: u64, push: &'a [u8], ack: &'a [u8]) -> Vec<Case<'a>> {
-    // SAFETY, for each call of the library: every slice is valid for its length, and none overlaps another.
-    let mut list: Vec<Case<'a>> = Vec::new();
-    list.push(Case {
-        call: "pending",
-        table,
-        library: Box::new(|b| unsafe { rumbezalo_pending(b.table.as_ptr(), b.table.len()) }),
-        rust: Box::new(|b| calls::pending(&b.table)),
-    });
-    list.push(Case {
-        call: "list",
-        table,
-        library: Box::new(|b| unsafe {
-            rumbezalo_list(b.table.as_ptr(), b.table.len(), 0, b.out.as_mut_ptr(), b.out.len())
-        }),
-        rust: Box::new(|b| calls::list(&b.table, 0, &mut b.out)),
-    });
-    list.push(Case {
-        call: "create",
-        table,
-        library: Box::new(|b| unsafe {
-            rumbezalo_create(b.table.as_mut_ptr(), b.table.len(), 9, 0, 1, b"new".as_ptr(), 3, 0xFF)
-        }),
-        rust: Box::new(|b| calls::create(&mut b.table, 9, 0, 1, b"new", 0xFF)),
-    });
-    list.push(Case {
-        call: "unlink",
-        table,
-        library: Box::new(move |b| unsafe { rumbezalo_unlink(b.table.as_mut_ptr(), b.table.len(), 9, file) }),
-        rust: Box::new(move |b| calls::unlink(&mut b.table, 9, file)),
-    });
-    list.push(Case {
-        call: "rename",
-        table: before,
-        library: Box::new(move |b| unsafe {
-            rumbezalo_rename(b.table.as_mut_ptr(), b.table.len(), 9, file, 0, b"moved".as_ptr(), 5)
-        }),
-        rust: Box::new(move |b| calls::rename(&mut b.table, 9, file, 0, b"moved")),
-    });
-    list.push(Case {
-        call: "remove",
-        table,
-        library: Box::new(|b| unsafe { rumbezalo_remove(b.table.as_mut_ptr(), b.table.len(), 9, 16777217) }),
-        rust: Box::new(|b| calls::remove(&mut b.table, 9, 16777217)),
-    });
-    list.push(Case {
-        call: "spread",
-        table,
-        library: Box::new(|b| unsafe { rumbezalo_spread(b.table.as_mut_ptr(), b.table.len(), 0, 0xFF) }),
-        rust: Box::new(|b| calls::spread(&mut b.table, 0, 0xFF)),
-    });
-    list.push(Case {
-        call: "push",
-        table,
-        library: Box::new(move |b| unsafe {
-            rumbezalo_push(b.table.as_ptr(), b.table.len(), file, 2, b.out.as_mut_ptr(), b.out.len())
-        }),
-        rust: Box::new(move |b| calls::push(&b.table, file, 2, &mut b.out)),
-    });
-    list.push(Case {
-        call: "receive",
-        table: other,
-        library: Box::new(move |b| unsafe {
-            let (out, room) = (b.out.as_mut_ptr(), b.out.len());
-            rumbezalo_receive(b.table.as_mut_ptr(), b.table.len(), 9, push.as_ptr(), push.len(), out, room)
-        }),
-        rust: Box::new(move |b| calls::receive(&mut b.table, 9, push, &mut b.out)),
-    });
-    list.push(Case {
-        call: "acknowl.",
-        table,
-        library: Box::new(move |b| unsafe {
-            rumbezalo_acknowledged(b.table.as_mut_ptr(), b.table.len(), ack.as_ptr(), ack.len())
-        }),
-        rust: Box::new(move |b| calls::acknowledged(&mut b.table, ack)),
-    });
+/// The table with every file in a directory unlinked, or with every file.
+fn emptied(table: &[u8], directory: Option<u64>) -> Vec<u8> {
+    let mut table = table.to_vec();
+    for replica in replicas(&table) {
+        let head = replica.head;
+        let counted = directory.is_none() || directory == Some(head.place.directory.into());
+        if head.live && head.kind == Kind::File && counted {
+            done("unlink", calls::unlink(&mut table, 5, head.id.into()));
+        }
+    }
+    table
+}
+
+/// The table with every file unlinked and every directory removed.
+fn bare(table: &[u8]) -> Vec<u8> {
+    let mut table = emptied(table, None);
+    for replica in replicas(&table).iter().rev() {
+        if replica.head.kind == Kind::Directory && replica.head.id != 0 {
+            done(
+                "remove",
+                calls::remove(&mut table, 5, replica.head.id.into()),
+            );
+        }
+    }
+    table
+}
+
+/// How many directories live.
+fn living(table: &[u8]) -> usize {
+    let live = |replica: &Replica| replica.head.live && replica.head.kind == Kind::Directory;
+    replicas(table)
+        .iter()
+        .filter(|replica| live(replica))
+        .count()
+}
+
+// ---- the cases
+
+/// Each call on node 1's table, and receive on node 2's, which has heard all but the last move of a
+/// file.
+fn cases(before: &[u8], other: &[u8]) -> Vec<Case> {
+    let id = last(before);
+    let mut table = before.to_vec();
+    let _ = calls::rename(&mut table, 5, id, 0, b"moved");
+    let (push, mut ack) = (pushed(&table, id), vec![0; 16]);
+    let _ = calls::receive(&mut other.to_vec(), 5, &push, &mut ack);
+    let (now, room) = (9, ROOM);
+    let named = |name: &[u8]| name.to_vec();
+    vec![
+        case("start", &table, Call::Start { node: 1, n: 8 }),
+        case("pending", &table, Call::Pending),
+        case("list", &table, Call::List { id: 0, room }),
+        case(
+            "create",
+            &table,
+            Call::Create {
+                now,
+                directory: 0,
+                kind: 1,
+                name: named(b"new"),
+                set: 0xFF,
+            },
+        ),
+        case("unlink", &table, Call::Unlink { now, id }),
+        case(
+            "rename",
+            before,
+            Call::Rename {
+                now,
+                id,
+                directory: 0,
+                name: named(b"moved"),
+            },
+        ),
+        case(
+            "remove",
+            &table,
+            Call::Remove {
+                now,
+                id: 16_777_217,
+            },
+        ),
+        case("spread", &table, Call::Spread { id: 0, set: 0xFF }),
+        case("push", &table, Call::Push { id, node: 2, room }),
+        case(
+            "receive",
+            other,
+            Call::Receive {
+                now,
+                message: push,
+                room,
+            },
+        ),
+        case("acknowledged", &table, Call::Acknowledged { message: ack }),
+    ]
+}
+
+/// An accepted remove, and a receive that brings fifteen directories back: node 2 has removed them
+/// all, and node 1, which has not heard of it, moves a file into the deepest.
+fn directory_cases(before: &[u8], other: &[u8]) -> Vec<Case> {
+    let (id, now, room) = (deepest(before), 9, ROOM);
+    let empty = emptied(before, Some(id));
+    let mut moved = before.to_vec();
+    done(
+        "move",
+        calls::rename(&mut moved, 1000, last(before), id, b"moved"),
+    );
+    let message = pushed(&moved, last(before));
+    let gone = bare(other);
+    let mut back = gone.clone();
+    done(
+        "receive",
+        calls::receive(&mut back, now, &message, &mut [0; 16]),
+    );
+    assert_eq!((living(&gone), living(&back)), (1, 16), "directories");
+    vec![
+        case("remove, done", &empty, Call::Remove { now, id }),
+        case("receive, back", &gone, Call::Receive { now, message, room }),
+    ]
+}
+
+/// A receive of a directory at depth 15 with 32 entries, the longest push, after all files in it were
+/// unlinked.
+fn longest_case(before: &[u8], other: &[u8]) -> Case {
+    let id = deepest(before);
+    let message = pushed(&emptied(before, Some(id)), id);
+    assert_eq!(message.len(), 1640, "the longest push");
+    case(
+        "receive, 32",
+        other,
+        Call::Receive {
+            now: 9,
+            message,
+            room: ROOM,
+        },
+    )
+}
+
+/// Fresh tables; half full ones; and full ones: 64 replicas, 256 entries.
+fn stages() -> Vec<(&'static str, Vec<Case>)> {
+    let [fresh, node_2] = [1, 2].map(|node| Table::fresh(node, 8).bytes());
+    let mut first = cases(&fresh, &node_2);
+    first.push(longest_case(&filled(64, 256), &node_2));
+    let mut list = vec![("fresh", first)];
+    for (name, count, most) in [("half full", 32, 128), ("full", 64, 256)] {
+        let mut before = filled(count, most);
+        let other = told(&mut before);
+        for table in [&before, &other] {
+            assert_eq!((replicas(table).len(), entries(table, None)), (count, most));
+        }
+        let mut some = cases(&before, &other);
+        some.extend(directory_cases(&before, &other));
+        some.push(longest_case(&before, &other));
+        list.push((name, some));
+    }
     list
 }
 
-/// The least of several times for so many calls, each on a new copy of the table, in nanoseconds a call.
+// ---- timing
+
+/// The least of several times for so many calls, each on a new copy of the table, in nanoseconds a
+/// call.
 fn timed(table: &[u8], mut call: impl FnMut(&mut Bed)) -> f64 {
-    let mut bed = Bed { table: table.to_vec(), out: vec![0xA5; ROOM] };
+    let mut bed = Bed::with(table);
     let mut best = f64::MAX;
     for _ in 0..7 {
         let start = Instant::now();
@@ -196,36 +342,39 @@ fn timed(table: &[u8], mut call: impl FnMut(&mut Bed)) -> f64 {
 
 /// Both must answer the same, and leave the same bytes.
 fn compare(name: &str, case: &Case) -> u32 {
-    let new = || Bed { table: case.table.to_vec(), out: vec![0xA5; ROOM] };
-    let (mut a, mut b) = (new(), new());
-    let (ours, theirs) = ((case.library)(&mut a), (case.rust)(&mut b));
-    assert_eq!(ours, u64::from(theirs.number) << 32 | u64::from(theirs.value), "{} on the {name} table", case.call);
-    assert_eq!((a.table, a.out), (b.table, b.out), "{} on the {name} table", case.call);
+    let (mut a, mut b) = (Bed::with(&case.table), Bed::with(&case.table));
+    let ours = by_library(&case.call, &mut a.table, &mut a.out);
+    let theirs = case.call.make(&RUST, &mut b.table, &mut b.out);
+    let what = format!("{} on the {name} table", case.label);
+    assert_eq!(
+        (ours.number, ours.value),
+        (theirs.number, theirs.value),
+        "{what}"
+    );
+    assert_eq!((a.table, a.out), (b.table, b.out), "{what}");
     theirs.number
 }
 
 fn main() {
-    println!("call      table       answer  library ns    Rust ns   ratio");
-    for (name, filled) in tables() {
-        let mut before = filled;
-        let other = told(&mut before);
-        let last = judge(&before).expect("a sound table").replicas.pop().expect("the root");
-        let file = u64::from(last.head.id);
-        let mut table = before.clone();
-        let _ = calls::rename(&mut table, 5, file, 0, b"moved");
-        let (mut push, mut ack) = (vec![0; ROOM], vec![0; 16]);
-        let written = calls::push(&table, file, 2, &mut push);
-        push.truncate(written.value as usize);
-        let _ = calls::receive(&mut other.clone(), 5, &push, &mut ack);
-        for case in cases(&table, &before, &other, file, &push, &ack) {
+    println!("call           table       answer  library ns    Rust ns   ratio");
+    for (name, cases) in stages() {
+        for case in cases {
             let number = compare(name, &case);
-            let ours = timed(case.table, |b| {
-                black_box((case.library)(b));
+            let ours = timed(&case.table, |bed| {
+                black_box(by_library(
+                    black_box(&case.call),
+                    &mut bed.table,
+                    &mut bed.out,
+                ));
             });
-            let theirs = timed(case.table, |b| {
-                black_box((case.rust)(b).number);
+            let theirs = timed(&case.table, |bed| {
+                black_box(black_box(&case.call).make(&RUST, &mut bed.table, &mut bed.out));
             });
-            println!("{:<9} {name:<10} {number:>7} {ours:>11.0} {theirs:>10.0} {:>7.2}", case.call, ours / theirs);
+            let ratio = ours / theirs;
+            println!(
+                "{:<14} {name:<10} {number:>7} {ours:>11.0} {theirs:>10.0} {ratio:>7.2}",
+                case.label
+            );
         }
     }
 }
