@@ -4,15 +4,11 @@ use mathlib.Core.Path.{_≡_, ap, sym, _∙_}
 use mathlib.Core.Bool.{Bool, true, false, cond}
 use mathlib.Core.Option.{some, none}
 use mathlib.Core.List.{List}
-use Prim.Native.Nat.{ℕ, _+_, _*_, _≤_}
-use native.Mathlib.Omega.{arith}
-use lib.ListN.{length}
-use Rattle.codec.specs.Lists.{and-true}
-use Rattle.document.specs.Tables.{Table, tableOf, tableBytes, tableInRange}
-use Rattle.document.specs.Sound.{soundBytes, readSound, rules}
+use Prim.Native.Nat.{ℕ, _+_, _*_}
+use Rattle.document.specs.Tables.{Table, tableOf, tableBytes}
+use Rattle.document.specs.Sound.{soundBytes, readSound}
 use Rattle.document.specs.Outcomes.{Outcome, refused, done, numberOf, valueOf, tableAfter}
 use Rattle.document.specs.Calls.{onSound, ifSound}
-use Rattle.table.specs.Ranges.{range-length}
 use Rattle.answers.specs.declared.Answer.{Answer}
 
 abbrev pub answerOf : Outcome → Answer
@@ -34,11 +30,6 @@ not-sound l f e = ap (λ (b : Bool). ifSound (cond b (some (tableOf l)) none) f)
 pub is-sound : (l : List ℕ) (f : Table → Outcome) → soundBytes l ≡ true → onSound l f ≡ f (tableOf l)
 unfolding readSound
 is-sound l f e = ap (λ (b : Bool). ifSound (cond b (some (tableOf l)) none) f) e
-
--- a sound table is as long as a table
-pub sound-length : (l : List ℕ) → soundBytes l ≡ true → 13344 ≤ length l
-unfolding soundBytes
-sound-length l e = omega (arith, range-length l (and-true (tableInRange l) (rules (tableOf l)) e .0))
 
 -- ---- both halves of a contract, from the outcome
 

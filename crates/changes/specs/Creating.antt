@@ -19,12 +19,14 @@ use Rattle.document.specs.Sound.{soundBytes}
 use Rattle.document.specs.Steps.{settle, stampAt, clockAt, tooMany, pastEnd, isDead}
 use Rattle.document.specs.Outcomes.{Outcome, refused, done, judged}
 use Rattle.document.specs.Calls.{when, isNow, changedBy, notHeld, notDirectory, nameTaken, deepest, newHead, created, createIn}
+use Rattle.views.specs.Sounds.{sound-table}
+use Rattle.views.specs.Lists.{not-none}
 use Rattle.kept.specs.States.{new-id-free}
 use Rattle.table.specs.Ranges.{nodes-at}
 use Rattle.steps.specs.Standing.{Is}
-use Rattle.steps.specs.States.{issue-stated}
+use Rattle.steps.specs.States.{issue-stated, held-head}
 use Rattle.changes.specs.Finishing.{Changes, changed, skip, stop}
-use Rattle.changes.specs.Working.{sound-table, held, crowd-new, set-below, withHeader, changes-on}
+use Rattle.changes.specs.Working.{set-below, withHeader, changes-on}
 use Rattle.changes.specs.Killing.{Takes, dead-is, live-is}
 
 -- "2: .. set, kind or name outside its range; now above 2^40-1"
@@ -78,12 +80,8 @@ module _ {l : List ℕ} {now : ℕ} {p : Head} (k : Makes l now p) where
         let free : headOf t id ≡ none = ap (headOf t) n ∙ new-id-free t s in
         subst (λ (z : Head). Changes l c z) (sym e)
         (changes-on (t .next + 1) (clockAt now t) (bornHead kind id stamp holders p name) (k .takes .sound) drawn
-        (held t s (p .id) p (k .takes .held))
-        (λ old o. absurd (none-some (sym free ∙ o)))
-        (crowd-new t s id free))
-      where
-        none-some : {h : Head} → _≡_ {A = Option Head} none (some h) → ⊥
-        none-some {h} e = let z : _≡_ {A = ℕ} 0 1 = cc in absurd (omega arith)
+        (held-head t (p .id) p (k .takes .held))
+        (λ old o. absurd (not-none (sym free ∙ o))))
 
     pub make-is : (kind : ℕ) (name : Name) (set : ℕ) (id stamp holders : ℕ) (g : Head) →
         g ≡ bornHead kind id stamp holders p name → id ≡ idOf (tableOf b .own) (tableOf b .next) →

@@ -8,21 +8,21 @@ use lib.Dec.{ltb, leb}
 use lib.ListN.{length}
 use borrow.Author.Tests.{lt-ltb, le-ltb, le-leb, lt-leb}
 use Rattle.codec.specs.Bytes.{splice, Bytes}
-use Rattle.codec.specs.Lists.{and-true}
 use Rattle.names.specs.Names.{splice-whole}
 use Rattle.records.specs.declared.head.Head.{Head}
-use Rattle.document.specs.Tables.{Table, headOf, tableOf, tableBytes, tableInRange}
-use Rattle.document.specs.Sound.{soundBytes, idsUnique, rootFirst, rules}
-use Rattle.slots.specs.declared.listed.Listed.{Listed}
-use Rattle.document.specs.Steps.{put, joined, joinAll, setBy, settle, tooMany, pastEnd}
-use Rattle.document.specs.Outcomes.{Outcome, refused, done, Refusal, judged}
+use Rattle.document.specs.Tables.{Table, headOf, tableOf, tableBytes}
+use Rattle.document.specs.Sound.{soundBytes, idsUnique}
+use Rattle.document.specs.Steps.{put, setBy, settle, tooMany, pastEnd}
+use Rattle.document.specs.Outcomes.{Outcome, refused, done, Refusal, judged, all-passed}
 use Rattle.document.specs.Calls.{when}
 use Rattle.views.specs.Settles.{settle-highest, settle-next}
+use Rattle.views.specs.Joins.{join-all}
+use Rattle.views.specs.Sounds.{sound-table}
 use Rattle.steps.specs.Standing.{Is, Stands, stands, sound-stands, never}
 use Rattle.steps.specs.Grown.{Grown, grown-put, grown-joined}
 use Rattle.steps.specs.Room.{many-settle}
 use Rattle.steps.specs.Settling.{Settles, allNumbered}
-use Rattle.steps.specs.States.{Ready, Made, stated}
+use Rattle.steps.specs.States.{Ready, Made, stated, made-past, made-within}
 
 -- ---- refusals, one by one
 
@@ -33,10 +33,6 @@ skip k b rs o e = ap (λ (z : Bool). cond z (refused k) (judged rs o)) e
 pub stop : (k : ℕ) (b : Bool) (rs : List Refusal) (o : Outcome) → b ≡ true → judged (when k b ∷ rs) o ≡ refused k
 unfolding judged
 stop k b rs o e = ap (λ (z : Bool). cond z (refused k) (judged rs o)) e
-
-pub pass : (o : Outcome) → judged [] o ≡ o
-unfolding judged
-pass o = refl
 
 -- ---- "17", and the end
 
@@ -62,9 +58,7 @@ pub record Changes (l c : List ℕ) (h : Head) : Type 0 where
 
 -- ids are unique in a sound table
 pub unique-ids : (l : List ℕ) → soundBytes l ≡ true → idsUnique (tableOf l) ≡ true
-unfolding soundBytes rules
-unique-ids l s =
-    and-true (idsUnique (tableOf l)) _ (and-true (rootFirst (tableOf l)) _ (and-true (tableInRange l) _ s .1) .1) .0
+unique-ids l s = sound-table l s .ids-unique
 
 pub settles : {l c : List ℕ} → Bytes l → Ends l c → Settles l c
 settles {l} {c} b k =
@@ -123,7 +117,7 @@ module _ (v : ℕ) (t u : Table) where
   pub end-done : u .highest ≤ 1099511627775 → u .next ≤ 16777216 → allNumbered (settle t u) ≡ true →
       ended v t u ≡ done v (settle t u) []
   end-done h n e =
-      skip 17 (pastEnd (settle t u)) [] (done v (settle t u) []) (not-past t u h n e) ∙ pass (done v (settle t u) [])
+      skip 17 (pastEnd (settle t u)) [] (done v (settle t u) []) (not-past t u h n e) ∙ all-passed (done v (settle t u) [])
 
 -- the copy comes back
 pub came-back : (l c : List ℕ) {t : Table} → length l ≡ 13344 → Is c t → splice l 0 c ≡ tableBytes t
@@ -131,13 +125,9 @@ came-back l c size k = splice-whole l c (k .size ∙ sym size) ∙ k .bytes
 
 -- ---- a state set, and then the end
 
-grown-all : (old : Table) (es : List Listed) (t : Table) → Grown old t → Grown old (joinAll es t)
-unfolding joinAll
-grown-all old [] t g = g
-grown-all old (e ∷ es) t g = grown-all old es (joined e t) (grown-joined old t e g)
-
 pub grown-stated : (old t : Table) (h : Head) → Grown old t → Grown old (stated h t)
-grown-stated old t h g = grown-all old (setBy h (headOf t (h .id))) (put h t) (grown-put old t h g)
+grown-stated old t h g =
+    join-all (Grown old) (setBy h (headOf t (h .id))) (λ e m u k. grown-joined old u e k) (put h t) (grown-put old t h g)
 
 module _ (v : ℕ) (h : Head) (t u : Table) where
   pub change-full : tooMany (stated h u) ≡ true → changed v h t u ≡ refused 16
@@ -148,24 +138,9 @@ module _ (v : ℕ) (h : Head) (t u : Table) where
   change-ends e =
       skip 16 (tooMany (settle t (stated h u))) _ (done v (settle t (stated h u)) []) (many-settle t (stated h u) ∙ e)
 
--- the state has no room, or it stands in the copy
-pub not-made : {b : Bool} {l : List ℕ} {u : Table} → Made b l u → b ≡ false → tooMany u ≡ true
-not-made {b} {l} {u} m e = go (tooMany u) (sym e ∙ m .room)
-  where
-    go : (b : Bool) → false ≡ not b → b ≡ true
-    go true e = refl
-    go false e = never e
-
-pub made : {b : Bool} {l : List ℕ} {u : Table} → Made b l u → b ≡ true → tooMany u ≡ false
-made {b} {l} {u} m e = go (tooMany u) (sym e ∙ m .room)
-  where
-    go : (b : Bool) → true ≡ not b → b ≡ false
-    go true e = never (sym e)
-    go false e = refl
-
 module _ (v : ℕ) {l c : List ℕ} {h : Head} (k : Changes l c h) {b : Bool} {c' : List ℕ} (m : Made b c' (stated h (tableOf c))) where
   pub change-refused : b ≡ false → changed v h (tableOf l) (tableOf c) ≡ refused 16
-  change-refused e = change-full v h (tableOf l) (tableOf c) (not-made m e)
+  change-refused e = change-full v h (tableOf l) (tableOf c) (made-past m e)
 
   pub change-next : b ≡ true → Ends l c'
   change-next e =
@@ -178,4 +153,4 @@ module _ (v : ℕ) {l c : List ℕ} {h : Head} (k : Changes l c h) {b : Bool} {c
 
   pub change-last : b ≡ true → ended v (tableOf l) (tableOf c') ≡ changed v h (tableOf l) (tableOf c)
   change-last e =
-      ap (ended v (tableOf l)) (m .bytes e .table) ∙ sym (change-ends v h (tableOf l) (tableOf c) (made m e))
+      ap (ended v (tableOf l)) (m .bytes e .table) ∙ sym (change-ends v h (tableOf l) (tableOf c) (made-within m e))

@@ -15,13 +15,13 @@ use Rattle.document.specs.Steps.{settle, stampAt, clockAt, withState, tooMany, 
 use Rattle.document.specs.Outcomes.{Outcome, refused, done, judged}
 use Rattle.document.specs.Calls.{when, isNow, changedBy, notHeld, notFile, notDirectory, placeNotHeld, killed, unlinkIn, removeIn, anyShown, liveChild}
 use Rattle.views.specs.Puts.{head-id}
-use Rattle.views.specs.Sounds.{root-only}
+use Rattle.views.specs.Sounds.{root-only, sound-table}
 use Rattle.table.specs.declared.find.Found.the-variants.{At}
 use Rattle.steps.specs.Standing.{Is}
 use Rattle.steps.specs.States.{Held, issue-stated}
 use Rattle.changes.specs.Finishing.{Changes, changed, skip, stop}
 use Rattle.changes.specs.Looking.{slotOf, slot-held}
-use Rattle.changes.specs.Working.{sound-table, drawn-on, place-there, place-held, crowd-held, changes-on}
+use Rattle.changes.specs.Working.{drawn-on, place-there, place-held, changes-on}
 
 -- ---- the state that is killed
 
@@ -42,8 +42,7 @@ module _ {l : List ℕ} {now : ℕ} {h : Head} (k : Kills l now h) where
   kill-changes c d copied stamp g e i =
       subst (λ (z : Head). Changes l c z) (sym e)
       (changes-on (tableOf l .next) (clockAt now (tableOf l)) (withState h 0 stamp) (k .sound) (drawn-on now copied i) place
-      (λ old q. subst (λ (z : Option Head). Of z) (sym (k .held) ∙ q) place)
-      (crowd-held (tableOf l) (sound-table l (k .sound)) h (k .held)))
+      (λ old q. subst (λ (z : Option Head). Of z) (sym (k .held) ∙ q) place))
     where
       place : Held (tableOf l) (h .directory)
       place = place-held (tableOf l) (sound-table l (k .sound)) h (k .held) (k .below)

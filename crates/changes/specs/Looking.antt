@@ -8,26 +8,24 @@ use Prim.Native.Nat.{ℕ, zero, suc, _+_, _-_, _≤_, _<_}
 use native.Mathlib.Omega.{arith}
 use native.Mathlib.Nat.{sub-zero}
 use lib.Dec.{eqb, ltb}
-use borrow.Author.Tests.{lt-ltb, le-ltb, ltb-true}
+use borrow.Author.Tests.{lt-ltb, le-ltb, ltb-true, ltb-false}
 use Rattle.codec.specs.Bytes.{u8At, u32At, Bytes}
 use Rattle.names.specs.declared.Name.{Name}
 use Rattle.names.specs.Names.{sameName, nameAt}
 use Rattle.records.specs.declared.head.Head.{Head}
-use Rattle.records.specs.declared.entry.Entry.{Entry}
 use Rattle.records.specs.Heads.{headAt, head-fields}
-use Rattle.records.specs.Entries.{entry-fields}
 use Rattle.slots.specs.declared.replica.Replica.{Replica}
 use Rattle.slots.specs.declared.listed.Listed.{Listed}
 use Rattle.slots.specs.Replicas.{replica-fields}
-use Rattle.slots.specs.Listings.{listed-fields}
 use Rattle.document.specs.Tables.{headOf, slotsFrom, tableOf, replicaSlot, entrySlot, replicaIn, entryIn, replicasUsed, entriesUsed}
 use Rattle.document.specs.Sound.{isLive, isRootId}
 use Rattle.document.specs.Calls.{isShown, nameTaken, anyShown, liveChild}
+use Rattle.document.specs.Reading.{few-replicas, live-at}
 use Rattle.answers.specs.Held.{not-an-id}
 use Rattle.table.specs.declared.find.Found.{Found}
 use Rattle.table.specs.declared.find.Found.the-variants.{At, Nothing}
 use Rattle.table.specs.Slots.{firstReplica, directory-at, name-at}
-use Rattle.steps.specs.Standing.{found-head, not-found, few-replicas}
+use Rattle.steps.specs.Standing.{found-head, not-found}
 
 -- ---- the slot that a number names; one past 2^32-1 names none
 
@@ -42,13 +40,19 @@ slot-small l id m h u e =
     e ∙ ap (λ (n : ℕ). firstReplica l n id) u
     ∙ ap (λ (b : Bool). cond b Nothing (firstReplica l (replicasUsed l) id)) (sym (le-ltb 4294967295 id h))
 
-pub slot-held : (l : List ℕ) (id i : ℕ) → slotOf l id ≡ At i → (i < 64) × (headOf (tableOf l) id ≡ some (headAt l (replicaSlot i)))
-slot-held l id i e = go (ltb 4294967295 id) e
+pub slot-found : (l : List ℕ) (id i : ℕ) → slotOf l id ≡ At i →
+    (id ≤ 4294967295) × (firstReplica l (replicasUsed l) id ≡ At i)
+slot-found l id i e = go (ltb 4294967295 id) refl e
   where
-    go : (b : Bool) → cond b Nothing (firstReplica l (replicasUsed l) id) ≡ At i →
-        (i < 64) × (headOf (tableOf l) id ≡ some (headAt l (replicaSlot i)))
-    go true q = let z : _≡_ {A = ℕ} 0 1 = cc in absurd (omega arith)
-    go false q = let p = found-head l (replicasUsed l) id i refl q in (omega (arith, p .0, few-replicas l), p .1)
+    go : (b : Bool) → ltb 4294967295 id ≡ b → cond b Nothing (firstReplica l (replicasUsed l) id) ≡ At i →
+        (id ≤ 4294967295) × (firstReplica l (replicasUsed l) id ≡ At i)
+    go true q r = let z : _≡_ {A = ℕ} 0 1 = cc in absurd (omega arith)
+    go false q r = (ltb-false 4294967295 id q, r)
+
+pub slot-held : (l : List ℕ) (id i : ℕ) → slotOf l id ≡ At i → (i < 64) × (headOf (tableOf l) id ≡ some (headAt l (replicaSlot i)))
+slot-held l id i e =
+    let p = found-head l (replicasUsed l) id i refl (slot-found l id i e .1) in
+    (omega (arith, p .0, few-replicas l), p .1)
 
 pub slot-none : (l : List ℕ) (id : ℕ) → Bytes l → slotOf l id ≡ Nothing → headOf (tableOf l) id ≡ none
 slot-none l id b e = go (ltb 4294967295 id) refl e
@@ -118,10 +122,6 @@ child-any l m d u =
     child-slots d (replicaIn l) 0 (replicasUsed l) ∙ ap (anySlot (λ (i : ℕ). isChildOf d (replicaIn l i)) 0) (sym u ∙ sym (sub-zero m))
 
 -- the tests, over the fields where they stand
-live-at : (l : List ℕ) (s : ℕ) → entryIn l s .entry .live ≡ u8At l (entrySlot s + 2)
-live-at l s =
-    ap (λ (x : Listed). x .entry .live) (listed-fields l (entrySlot s)) ∙ ap (λ (e : Entry). e .live) (entry-fields l (entrySlot s))
-
 pub taken-test : (l : List ℕ) (d : ℕ) (name : Name) (s : ℕ) →
     isTakenBy d name (entryIn l s)
     ≡ (eqb (u32At l (entrySlot s + 32)) d && (eqb (u8At l (entrySlot s + 2)) 1 && sameName (nameAt l (entrySlot s + 16)) name))

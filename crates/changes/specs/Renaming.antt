@@ -13,11 +13,11 @@ use Rattle.document.specs.Tables.{Table, headOf, tableOf, withHighest}
 use Rattle.document.specs.Steps.{settle, stampAt, clockAt, withPlace, tooMany, pastEnd, isDead}
 use Rattle.document.specs.Outcomes.{Outcome, refused, done, judged}
 use Rattle.document.specs.Calls.{when, isNow, changedBy, notHeld, notFile, notDirectory, nameTaken, deepest, placeNotHeld, renamed, renameIn}
-use Rattle.views.specs.Sounds.{Sound, root-only}
+use Rattle.views.specs.Sounds.{Sound, root-only, sound-table}
 use Rattle.steps.specs.Standing.{Is}
-use Rattle.steps.specs.States.{Held, issue-stated}
+use Rattle.steps.specs.States.{Held, issue-stated, held-head}
 use Rattle.changes.specs.Finishing.{Changes, changed, skip, stop}
-use Rattle.changes.specs.Working.{sound-table, drawn-on, held, place-held, place-there, crowd-held, changes-on}
+use Rattle.changes.specs.Working.{drawn-on, place-held, place-there, changes-on}
 use Rattle.changes.specs.Killing.{Takes, not-now, is-now, dead-is, live-is}
 
 -- ---- the head at its new place
@@ -47,10 +47,9 @@ module _ {l : List ℕ} {now : ℕ} {h p : Head} (k : Moves l now h p) where
   move-changes name c d copied stamp g e i =
       subst (λ (z : Head). Changes l c z) (sym e)
       (changes-on (t .next) (clockAt now t) (withPlace h p name stamp) (k .both .file .sound) (drawn-on now copied i)
-      (held t s (p .id) p (k .both .target .held))
+      (held-head t (p .id) p (k .both .target .held))
       (λ old q. subst (λ (z : Option Head). Of z) (sym (k .both .file .held) ∙ q)
-      (place-held t s h (k .both .file .held) (k .below)))
-      (crowd-held t s h (k .both .file .held)))
+      (place-held t s h (k .both .file .held) (k .below))))
     where
       s : Sound (tableOf l)
       s = sound-table l (k .both .file .sound)

@@ -15,6 +15,7 @@ use Rattle.document.specs.Sound.{soundBytes, isHeld}
 use Rattle.document.specs.Steps.{put, withHolders, tooMany, pastEnd}
 use Rattle.document.specs.Outcomes.{Outcome, refused, done, judged}
 use Rattle.document.specs.Calls.{when, changedBy, notHeld, spreadTo, spreadIn}
+use Rattle.views.specs.Sounds.{sound-table}
 use Rattle.kept.specs.Limits.{spread-room}
 use Rattle.steps.specs.Standing.{Is, stands}
 use Rattle.steps.specs.Putting.{hasSlot}
@@ -23,7 +24,6 @@ use Rattle.changes.specs.Finishing.{Ends, ended, skip, stop}
 use Rattle.table.specs.declared.find.Found.the-variants.{At}
 use Rattle.changes.specs.Looking.{slotOf}
 use Rattle.changes.specs.Killing.{takes}
-use Rattle.changes.specs.Working.{sound-table}
 
 -- by what is held
 abbrev spreadOf : ℕ → Table → Option Head → Outcome

@@ -6,33 +6,15 @@ use answers::Answer;
 use numbers::nodes;
 use records::Head;
 use steps::put;
+use steps::state;
 use table::find::Found;
 ghost use mathlib.Core.Path.{_≡_};
 ghost use mathlib.Core.Bool.{true};
-ghost use Rattle.numbers.specs.Nodes.{join};
 ghost use Rattle.document.specs.Tables.{tableOf};
 ghost use Rattle.document.specs.Sound.{soundBytes};
-ghost use Rattle.document.specs.Steps.{withHolders};
 ghost use Rattle.document.specs.Calls.{spreadIn};
 ghost use Rattle.answers.specs.Contracts.{Answered, Leaves};
 ghost use Rattle.changes.specs.Spreading.{Spreads};
-
-// The head with other holders.
-fn held_by(h: Head, holders: u8) -> Head
-    ensures { λ r. ⌜ r ≡ withHolders h holders ⌝ }
-{
-    let name = h.name;
-    Head {
-        kind: h.kind,
-        live: h.live,
-        id: h.id,
-        stamp: h.stamp,
-        holders,
-        depth: h.depth,
-        directory: h.directory,
-        name,
-    }
-}
 
 // Spreads what is held.
 fn spread_held(table: &mut [u8], set: u8, h: Head) -> Answer
@@ -41,7 +23,10 @@ fn spread_held(table: &mut [u8], set: u8, h: Head) -> Answer
         (now (table .entry)) (now (table .exit)) ⌝ }
 {
     let mut copy = finish::copy_of(table);
-    put::put(&mut copy, held_by(h, nodes::join(h.holders, set)));
+    put::put(
+        &mut copy,
+        state::with_holders(h, nodes::join(h.holders, set)),
+    );
     finish::finish(table, &mut copy, 0)
 }
 

@@ -21,13 +21,13 @@ use Rattle.document.specs.Sound.{isDirectory, rootFirst, soundBytes, readSound}
 use Rattle.document.specs.Steps.{issue, settle, pastEnd}
 use Rattle.document.specs.Messages.{Push, messageBytes, pushFrom, readPush, readAck}
 use Rattle.document.specs.Receive.{received, odd, ackFor}
-use Rattle.document.specs.Outcomes.{Outcome, done}
+use Rattle.document.specs.Outcomes.{Outcome, done, all-passed}
 use Rattle.document.specs.Calls.{ifSound, onSound, notHeld, notFile, notDirectory, changedBy, newHead, created, createIn, killed, unlinkRefusals, unlinkIn, renamed, renameRefusals, renameIn, removeRefusals, removeIn, spreadTo, spreadRefusals, spreadIn, listIn, isPending, pushOf?, pushRefusals, pushIn, ifPush, takeRefusals, takeIn, receiveRefusals, receiveIn, isCurrent, clear, ifAck, clearRefusals, clearIn, pendingSum}
 use Rattle.views.specs.Lists.{no-both, or-false-both}
 use Rattle.views.specs.Issues.{issue-next}
 use Rattle.views.specs.Settles.{settle-next}
 use Rattle.views.specs.Sounds.{root-held}
-use Rattle.kept.specs.Accepted.{not-done, done-table, accepted, all-passed, judged-done, held-some}
+use Rattle.kept.specs.Accepted.{not-done, done-table, accepted, judged-done, held-some}
 use Rattle.kept.specs.Kept.{push-same}
 use Rattle.cluster.specs.Cluster.{Call, creates, unlinks, renames, removes, spreads, lists, pushes, receives, hears, counts, answer}
 

@@ -9,7 +9,7 @@ use native.Mathlib.Omega.{arith}
 use lib.Dec.{eqb}
 use lib.ListN.{length}
 use borrow.Author.Tests.{eqb-true, not-false, le-leb}
-use Rattle.codec.specs.Lists.{and-true}
+use Rattle.codec.specs.Lists.{and-true, and-both}
 use Rattle.numbers.specs.Nodes.{isSize, isNode}
 use Rattle.records.specs.declared.head.Head.{Head}
 use Rattle.records.specs.Heads.{rootHead}
@@ -18,7 +18,6 @@ use Rattle.document.specs.Tables.{Table, tableSize, fresh, tableBytes, tableOf,
 use Rattle.document.specs.Sound.{sound, soundBytes}
 use Rattle.document.specs.Outcomes.{Outcome, refused, done, numberOf, tableAfter, judged}
 use Rattle.document.specs.Calls.{start}
-use Rattle.document.specs.Reading.{and-both}
 use Rattle.views.specs.Lists.{In, not-none}
 use Rattle.views.specs.Sounds.{is-sound}
 use Rattle.kept.specs.Shapes.{full-fresh}

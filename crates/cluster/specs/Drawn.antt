@@ -7,10 +7,10 @@ use mathlib.Core.Option.{Option, some, none}
 use mathlib.Core.List.{List, [], _∷_, _++_, List·Memᴰ·cases-cons, List·Memᴰ·append-cases}
 use Prim.Native.Nat.{ℕ, zero, suc, _+_, _≤_}
 use native.Mathlib.Omega.{arith}
-use lib.Dec.{leb}
-use borrow.Author.Tests.{eq-eqb, leb-true}
+use borrow.Author.Tests.{eq-eqb}
 use Rattle.codec.specs.Lists.{and-true}
 use Rattle.names.specs.Names.{nameFrom}
+use Rattle.numbers.specs.Laws.{size-most}
 use Rattle.records.specs.declared.head.Head.{Head}
 use Rattle.slots.specs.declared.replica.Replica.{Replica}
 use Rattle.document.specs.Tables.{Table, withNext, headOf}
@@ -292,8 +292,7 @@ module _ (t : Table) (s : Sound t) (v : ℕ) (u : Table) (w : List ℕ) where
       In x (receivedStates now (some p) t) → Stands u x
   unfolding receivedStates received
   take-drawn now l p e k x m =
-      let most : t .nodes ≤ 8 = leb-true (t .nodes) 8 (and-true (leb 1 (t .nodes)) _ (s .size) .1) in
-      let says = message-says (t .nodes) l p most e in
+      let says = message-says (t .nodes) l p (size-most (t .nodes) (s .size)) e in
       let agrees = table-agrees p t (k .even) in
       let E : Table = joinAll (joins p t) (taken p t) in
       subst (λ (z : Table). Stands z x) (sym (k .is))

@@ -10,8 +10,10 @@ use Rattle.codec.specs.Lists.{and-true}
 use Rattle.names.specs.declared.Name.{Name}
 use Rattle.numbers.specs.Nodes.{isNode, has}
 use Rattle.numbers.specs.Ids.{maker, count, isMade, isVersion}
+use Rattle.numbers.specs.Laws.{size-most}
 use Rattle.records.specs.declared.head.Head.{Head}
 use Rattle.records.specs.declared.entry.Entry.{Entry}
+use Rattle.records.specs.Ordinary.{ordinary-is}
 use Rattle.slots.specs.declared.listed.Listed.{Listed}
 use Rattle.document.specs.Tables.{Table, find, headOf, findEntry}
 use Rattle.document.specs.Sound.{isRootId, isLive, sound}
@@ -20,7 +22,6 @@ use Rattle.views.specs.Lists.{or-second}
 use Rattle.views.specs.Puts.{versionOf, head-id, head-found, dead-not}
 use Rattle.views.specs.Joins.{entry-key, entry-in, entry-found}
 use Rattle.views.specs.Sounds.{Sound, sound-is, not-root, root-held}
-use Rattle.kept.specs.Ranges.{ordinary-is}
 use Rattle.kept.specs.Settled.{holders-fit}
 use Rattle.cluster.specs.Cluster.{Node}
 use Rattle.cluster.specs.Ranks.{rankO, markO, rank, mark, vers, held, entered}
@@ -118,7 +119,7 @@ module _ (t : Table) (s : Sound t) where
   facts-of =
       record {
         node = node-is (t .nodes) (t .own) (s .node);
-        few = leb-true (t .nodes) 8 (and-true (leb 1 (t .nodes)) _ (s .size) .1);
+        few = size-most (t .nodes) (s .size);
         root = root-held t (s .root-first);
         own = s .own-holds;
         within = holders-fit t (s .root-first) (s .heads-fit);

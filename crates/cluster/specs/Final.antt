@@ -8,7 +8,7 @@ use Prim.Native.Nat.{ℕ, zero, suc, _≤_, _<_}
 use native.Mathlib.Omega.{arith}
 use lib.Dec.{eqb}
 use borrow.Author.Tests.{eqb-true}
-use Rattle.codec.specs.Lists.{and-true}
+use Rattle.codec.specs.Lists.{and-true, both-ways}
 use Rattle.names.specs.declared.Name.{Name}
 use Rattle.names.specs.Names.{sameName, same-name-eq}
 use Rattle.numbers.specs.Nodes.{has}
@@ -33,12 +33,6 @@ use Rattle.cluster.specs.Sets.{in-range}
 -- no node has anything pending
 abbrev pub Silent : World → Type 0
 Silent c = (i f j : ℕ) → Node (c .nodes) i → pend (c .tab i) f j ≡ false
-
-bool-eq : (a b : Bool) → (a ≡ true → b ≡ true) → (b ≡ true → a ≡ true) → a ≡ b
-bool-eq true true p q = refl
-bool-eq true false p q = sym (p refl)
-bool-eq false true p q = q refl
-bool-eq false false p q = refl
 
 -- a flag that is 1 under a test: the test holds, and the flag was 1
 shown-at : (b : Bool) (x : ℕ) → cond b x 0 ≡ 1 → (b ≡ true) × (x ≡ 1)
@@ -129,7 +123,7 @@ module _ (c : World) (L : List State) (k : Inv c L) (q : Silent c) where
   holders-of i j f g h a b =
       set-ext (c .nodes) (g .holders) (h .holders) (facts i (a .0) .within f g (a .1))
       (facts j (b .0) .within f h (b .1))
-      (λ m. bool-eq _ _ (way i j g h a b m) (way j i h g b a m))
+      (λ m. both-ways _ _ (way i j g h a b m) (way j i h g b a m))
     where
       way : (i j : ℕ) (g h : Head) → Has i f g → Has j f h → (m : ℕ) → has (g .holders) m ≡ true →
           has (h .holders) m ≡ true

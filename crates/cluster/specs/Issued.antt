@@ -11,8 +11,7 @@ use Rattle.document.specs.Tables.{Table, tableBytes, tableOf, headOf}
 use Rattle.document.specs.Sound.{soundBytes}
 use Rattle.document.specs.Outcomes.{Outcome, refused, done, tableAfter}
 use Rattle.views.specs.Lists.{In}
-use Rattle.views.specs.Sounds.{sound-is}
-use Rattle.kept.specs.Kept.{bytes-sound}
+use Rattle.views.specs.Sounds.{sound-table}
 use Rattle.cluster.specs.Cluster.{Node, State, Cluster, Call, answer, issues, after, Later, same, starts, more, idle}
 use Rattle.cluster.specs.Accepted.{on-table}
 use Rattle.cluster.specs.Drawn.{Stands, drawn-stands}
@@ -62,7 +61,7 @@ drew c i k s x m = go (answer k (c .bytes i)) refl m
         ap (λ (b : Bool). cond b (tableAfter (answer k (c .bytes i)) (c .bytes i)) (c .bytes i)) (eq-eqb i i refl)
         ∙ ap (λ (o : Outcome). tableAfter o (c .bytes i)) e in
         subst (λ (z : Table). Stands z x) (sym (ap tableOf at ∙ table-back u (left k (c .bytes i) v u w e)))
-        (drawn-stands t (sound-is t (bytes-sound (c .bytes i) s .0)) v u w k (on-table k (c .bytes i) v u w e) x m)
+        (drawn-stands t (sound-table (c .bytes i) s) v u w k (on-table k (c .bytes i) v u w e) x m)
 
 pub issued-stood : (n : ℕ) (lent : ℕ → List ℕ) (c : Cluster) → Later (idle n lent) c → (x : State) → In x (c .issued) →
     Stood n lent c x

@@ -6,7 +6,6 @@ pub mod Directory
 pub mod Drawn
 pub mod Facts
 pub mod Final
-pub mod Honest
 pub mod Invariants
 pub mod Issue
 pub mod Issued

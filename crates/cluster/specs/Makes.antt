@@ -6,7 +6,7 @@ use mathlib.Core.Option.{Option, some}
 use mathlib.Core.List.{List, [], _∷_, _++_, List·Memᴰ·tail, List·Memᴰ·cases-cons}
 use Prim.Native.Nat.{ℕ}
 use lib.Dec.{eqb}
-use borrow.Author.Tests.{eqb-true}
+use borrow.Author.Tests.{eqb-true, eqb-false}
 use Rattle.messages.specs.declared.acknowledgement.Acknowledgement.{Acknowledgement}
 use Rattle.messages.specs.Acknowledgements.{ackBytes}
 use Rattle.document.specs.Tables.{Table, tableOf, withReplicas}
@@ -16,11 +16,12 @@ use Rattle.document.specs.Receive.{ackFor}
 use Rattle.document.specs.Outcomes.{Outcome, refused, done}
 use Rattle.document.specs.Calls.{clear}
 use Rattle.document.specs.ReadingMessages.{messageFits}
+use Rattle.document.specs.Reading.{Shaped, sound-shaped}
 use Rattle.views.specs.Lists.{In}
-use Rattle.views.specs.Sounds.{Sound, sound-is}
+use Rattle.views.specs.Sounds.{Sound, sound-table}
+use Rattle.views.specs.ReadBack.{push-read-back, push-read}
 use Rattle.kept.specs.Accepted.{done-table}
-use Rattle.kept.specs.Shapes.{Full}
-use Rattle.kept.specs.Kept.{bytes-sound, Left, list-same, create-left, unlink-left, rename-left, remove-left, spread-left, list-left, push-left, acknowledged-left, pending-left}
+use Rattle.kept.specs.Kept.{Left, list-same, create-left, unlink-left, rename-left, remove-left, spread-left, list-left, push-left, acknowledged-left, pending-left}
 use Rattle.kept.specs.ReceiveSound.{receive-left}
 use Rattle.cluster.specs.Cluster.{Node, State, Cluster, Call, creates, unlinks, renames, removes, spreads, lists, pushes, receives, hears, counts, answer, sends, draws, issues, receivedStates, Handed, after}
 use Rattle.cluster.specs.Invariants.{World, Facts, Inv}
@@ -30,9 +31,8 @@ use Rattle.cluster.specs.Issue.{Ready}
 use Rattle.cluster.specs.Users.{ready-of, done-of, Went, went-create, went-kill, went-rename, went-spread}
 use Rattle.cluster.specs.Net.{writes-keep, hears-keep}
 use Rattle.cluster.specs.Receive.{takes-keep}
-use Rattle.cluster.specs.Honest.{read-back}
 use Rattle.cluster.specs.Accepted.{answerIn, on-table, creates-is, unlinks-is, removes-is, renames-is, spreads-is, writes-is, takes-is, receives-is, Hears, hears-is, acknowledges-is}
-use Rattle.cluster.specs.Reached.{Letter, push-read, push-letter, ack-letter, world, Reached, moved, stands, lands}
+use Rattle.cluster.specs.Reached.{Letter, push-letter, ack-letter, world, Reached, moved, stands, lands}
 
 -- what every accepted call leaves is sound, bytes and table
 pub left : (k : Call) (l : List ℕ) (v : ℕ) (u : Table) (w : List ℕ) → answer k l ≡ done v u w → Left u
@@ -56,10 +56,10 @@ module _ (c : Cluster) (r : Reached c) (i : ℕ) (ni : Node (c .nodes) i) where
   W = world c (r .pushes) (r .acks)
 
   t-sound : Sound t
-  t-sound = sound-is t (bytes-sound (c .bytes i) (r .sound i ni) .0)
+  t-sound = sound-table (c .bytes i) (r .sound i ni)
 
-  t-full : Full t
-  t-full = bytes-sound (c .bytes i) (r .sound i ni) .1
+  t-shaped : Shaped t
+  t-shaped = sound-shaped (c .bytes i) (r .sound i ni)
 
   t-facts : Facts (c .nodes) t
   t-facts = r .inv .k1 .facts i ni
@@ -130,7 +130,7 @@ module _ (c : Cluster) (r : Reached c) (i : ℕ) (ni : Node (c .nodes) i) where
       let p : Push = pushFrom t (k .replica .head) (k .replica .version) node in
       let b : readPush (c .nodes) (messageBytes p) ≡ some p =
       subst (λ (n : ℕ). readPush n (messageBytes p) ≡ some p) size
-      (read-back t t-sound t-full id node (k .replica) (k .found) (k .node) (k .other) (k .pending)) in
+      (push-read-back t t-sound t-shaped id node (k .replica) (k .found) (k .node) (eqb-false _ _ (k .other)) (k .pending)) in
       still v u w (w ∷ []) (p ∷ r .pushes) s (k .is)
       (writes-keep W (c .issued) (r .inv) i ni id node (k .replica) (k .found))
       (λ m q. letter p (k .output) b m (List·Memᴰ·cases-cons q))

@@ -3,8 +3,8 @@ use mathlib.Core.Path.{_≡_, refl, ap, sym, subst, _∙_}
 use mathlib.Core.Logic.{_⊎_, inl, inr}
 use mathlib.Core.Bool.{Bool, true, false, cond}
 use mathlib.Core.Option.{Option, some, none}
-use mathlib.Core.List.{List, [], _∷_, List·Memᴰ·cases-cons}
-use Prim.Native.Nat.{ℕ, zero, suc, _≤_}
+use mathlib.Core.List.{List, _∷_, List·Memᴰ·cases-cons}
+use Prim.Native.Nat.{ℕ, _≤_}
 use native.Mathlib.Omega.{arith}
 use lib.Dec.{eqb}
 use borrow.Author.Tests.{eqb-true}
@@ -15,12 +15,13 @@ use Rattle.messages.specs.declared.acknowledgement.Acknowledgement.{Acknowledge
 use Rattle.slots.specs.declared.replica.Replica.{Replica}
 use Rattle.document.specs.Tables.{Table, withReplicas, first, find, headOf?, headOf}
 use Rattle.document.specs.Sound.{sound}
-use Rattle.document.specs.Messages.{Push, above, chainUp, pushFrom}
+use Rattle.document.specs.Messages.{Push, chainUp, pushFrom}
 use Rattle.document.specs.Receive.{joinedIn, ackFor}
 use Rattle.document.specs.Calls.{clear}
 use Rattle.views.specs.Lists.{In, same?}
 use Rattle.views.specs.Puts.{versionOf, pendingOf, find-id, head-id}
 use Rattle.views.specs.Maps.{onFound, find-map, head-map}
+use Rattle.views.specs.Chains.{chain-held}
 use Rattle.kept.specs.Clears.{cleared, clear-map, cleared-head, cleared-version}
 use Rattle.cluster.specs.Cluster.{Node, State, stateOf}
 use Rattle.cluster.specs.Ranks.{rankO, rank, vers, pend, Leq, Covers, leq-trans}
@@ -39,24 +40,6 @@ abbrev pub answered : World → Acknowledgement → World
 answered c a = record { nodes = c .nodes; tab = c .tab; pushes = c .pushes; acks = a ∷ c .acks }
 
 -- ---- a push written
-
--- every head of the chain is held
-chain-held : (k d : ℕ) (t : Table) (h : Head) → In h (chainUp k d t) → (g : ℕ) × (headOf t g ≡ some h)
-unfolding chainUp
-chain-held zero d t h m = elim m [ ]
-chain-held (suc k) d t h m = go (eqb d 0) (headOf t d) refl (λ up. chain-held k up t h) m
-  where
-    on : (x : Head) → headOf t d ≡ some x → ((up : ℕ) → In h (chainUp k up t) → (g : ℕ) × (headOf t g ≡ some h)) →
-        (h ≡ x) ⊎ In h (chainUp k (x .directory) t) → (g : ℕ) × (headOf t g ≡ some h)
-    on x e ih (inl p) = (d, e ∙ ap some (sym p))
-    on x e ih (inr p) = ih (x .directory) p
-
-    go : (b : Bool) (o : Option Head) → headOf t d ≡ o →
-        ((up : ℕ) → In h (chainUp k up t) → (g : ℕ) × (headOf t g ≡ some h)) →
-        In h (cond b [] (above o (λ (up : ℕ). chainUp k up t))) → (g : ℕ) × (headOf t g ≡ some h)
-    go true o e ih m = elim m [ ]
-    go false none e ih m = elim m [ ]
-    go false (some x) e ih m = on x e ih (List·Memᴰ·cases-cons m)
 
 module _ (c : World) (L : List State) (k : Inv c L) (i : ℕ) (ni : Node (c .nodes) i) (f j : ℕ) (r : Replica)
     (e : find f (c .tab i .replicas) ≡ some r) where

@@ -15,8 +15,7 @@ use Rattle.document.specs.Outcomes.{done, valueOf}
 use Rattle.document.specs.Calls.{ifSound, pending, pendingSum}
 use Rattle.views.specs.Lists.{In}
 use Rattle.views.specs.Puts.{pendingOf, find-in, find-member}
-use Rattle.views.specs.Sounds.{Sound, sound-is}
-use Rattle.kept.specs.Kept.{bytes-sound}
+use Rattle.views.specs.Sounds.{Sound, sound-table}
 use Rattle.cluster.specs.Cluster.{Cluster, Quiet}
 use Rattle.cluster.specs.Sets.{empty-set, no-size}
 use Rattle.cluster.specs.Facts.{facts-of}
@@ -55,7 +54,7 @@ pub pending-empty : (l : List ℕ) → soundBytes l ≡ true → (valueOf (pendi
 pending-empty l e = (there, λ f. pending-value l e ∙ none-sum (tableOf l .replicas) f)
   where
     s : Sound (tableOf l)
-    s = sound-is (tableOf l) (bytes-sound l e .0)
+    s = sound-table l e
 
     there : valueOf (pending l) ≡ 0 → Empty l
     there q r m =

@@ -1,36 +1,31 @@
 -- From bytes to tables and back: what holds of every cluster that can be reached, and that each call of a node keeps
 -- it. Assumes nothing.
 use mathlib.Core.Path.{_≡_, refl, ap, sym, subst, _∙_}
-use mathlib.Core.Logic.{_⊎_, inl, inr}
-use mathlib.Core.Bool.{Bool, true, false, not, cond}
+use mathlib.Core.Bool.{Bool, true, false, cond}
 use mathlib.Core.Option.{some}
 use mathlib.Core.List.{List, [], _∷_, _++_, List·Memᴰ·head}
 use Prim.Native.Nat.{ℕ, _+_, _≤_}
 use native.Mathlib.Omega.{arith}
 use lib.Dec.{eqb}
 use lib.ListN.{length}
-use borrow.Author.Tests.{eqb-true, eqb-false, eq-eqb, ne-eqb, not-true}
+use borrow.Author.Tests.{eqb-true}
 use Rattle.codec.specs.Bytes.{chunk, bytesOf, sameBytes}
 use Rattle.codec.specs.Lists.{every, and-true}
-use Rattle.numbers.specs.Nodes.{isNode}
-use Rattle.numbers.specs.Ids.{isId, isVersion}
-use Rattle.records.specs.declared.head.Head.{Head}
-use Rattle.records.specs.Heads.{headFits}
 use Rattle.messages.specs.declared.acknowledgement.Acknowledgement.{Acknowledgement}
-use Rattle.messages.specs.Acknowledgements.{ackBytes, ackFits}
-use Rattle.messages.specs.PushHeaders.{pushFits, pushInRange}
+use Rattle.messages.specs.Acknowledgements.{ackBytes}
+use Rattle.messages.specs.PushHeaders.{pushInRange}
 use Rattle.document.specs.Tables.{Table, fits, tableOf, tableBytes}
 use Rattle.document.specs.Sound.{sound, soundBytes}
 use Rattle.document.specs.Messages.{Push, messageBytes, messageInRange, readPush, readAck}
 use Rattle.document.specs.Receive.{ackFor}
 use Rattle.document.specs.Outcomes.{Outcome, refused, done, tableAfter}
-use Rattle.document.specs.Reading.{and-both, table-of-bytes}
-use Rattle.document.specs.ReadingMessages.{messageFits, push-parts, isAck, ack-read-write, message-fits, read-some, length-messageBytes}
-use Rattle.views.specs.Lists.{In, some-only, not-none, same?}
+use Rattle.document.specs.Reading.{table-of-bytes}
+use Rattle.document.specs.ReadingMessages.{messageFits, read-some, length-messageBytes}
+use Rattle.views.specs.Lists.{In, some-only, not-none}
+use Rattle.views.specs.ReadBack.{ack-read-back}
 use Rattle.cluster.specs.Cluster.{Node, State, Cluster}
 use Rattle.cluster.specs.Invariants.{World, Inv}
 use Rattle.cluster.specs.Keeps.{upd}
-use Rattle.kept.specs.Ranges.{ordinary-is, made-id}
 use Rattle.kept.specs.Shapes.{shaped-of}
 use Rattle.kept.specs.Kept.{Left}
 
@@ -48,14 +43,6 @@ pub record Letter (n : ℕ) (P : List Push) (A : List Acknowledgement) (m : List
   pub push : (p : Push) → readPush n m ≡ some p → In p P
   pub ack : (a : Acknowledgement) → readAck n m ≡ some a → In a A
 
--- a push read is in range
-pub push-read : (n : ℕ) → n ≤ 8 → (m : List ℕ) (p : Push) → readPush n m ≡ some p → messageFits n p ≡ true
-unfolding readPush
-push-read n le m p e =
-    let found = read-some _ e in
-    let range = and-true (messageInRange n m) _ (found .0) in
-    ap (messageFits n) (sym (found .1)) ∙ message-fits n m le (range .0) (range .1)
-
 -- no bytes are both
 push-no-ack : (n : ℕ) (p : Push) (a : Acknowledgement) → readAck n (messageBytes p) ≡ some a → ⊥
 unfolding readAck
@@ -66,27 +53,6 @@ push-no-ack n p a e =
 ack-no-push : (n : ℕ) (a : Acknowledgement) (p : Push) → readPush n (ackBytes a) ≡ some p → ⊥
 unfolding readPush messageInRange pushInRange ackBytes bytesOf chunk sameBytes every
 ack-no-push n a p e = not-none e
-
--- the acknowledgement of a push in range is in range
-head-id-fits : (n : ℕ) (h : Head) → headFits n h ≡ true → isId n (h .id) ≡ true
-unfolding isId
-head-id-fits n h e = go (same? (h .id) 0)
-  where
-    go : (h .id ≡ 0) ⊎ (h .id ≡ 0 → ⊥) → isId n (h .id) ≡ true
-    go (inl z) = rw (eq-eqb (h .id) 0 z)
-    go (inr z) = made-id n (h .id) (ordinary-is n h z e .made)
-
-ack-in-range : (n : ℕ) (p : Push) → messageFits n p ≡ true → isAck n (ackFor p) ≡ true
-unfolding pushFits ackFits every
-ack-in-range n p e =
-    let q = push-parts n p e in
-    let a = and-true (isNode n (p .sender)) _ (q .header) in
-    let b = and-true (isNode n (p .addressee)) _ (a .1) in
-    let c = and-true (isVersion (p .version)) _ (b .1) in
-    let h = and-true (headFits n (p .first)) _ (q .heads) in
-    and-both
-    (and-both (b .0) (and-both (a .0) (and-both (c .0) (head-id-fits n (p .first) (h .0)))))
-    (ap not (ne-eqb (p .addressee) (p .sender) (λ z. eqb-false _ _ (not-true _ (q .apart)) (sym z))))
 
 -- a push that is read as it is, and the acknowledgement of one
 pub push-letter : (n : ℕ) (P : List Push) (A : List Acknowledgement) (p : Push) → readPush n (messageBytes p) ≡ some p →
@@ -102,7 +68,7 @@ pub ack-letter : (n : ℕ) → n ≤ 8 → (P : List Push) (A : List Acknowledge
 ack-letter n le P A p e =
     record {
       push = λ q r. absurd (ack-no-push n (ackFor p) q r);
-      ack = λ a r. List·Memᴰ·head (some-only (sym r ∙ ack-read-write n (ackFor p) le (ack-in-range n p e)));
+      ack = λ a r. List·Memᴰ·head (some-only (sym r ∙ ack-read-back n p le e));
     }
 
 -- ---- what holds of every cluster that can be reached

@@ -11,6 +11,7 @@ use lib.ListN.{length}
 use borrow.Author.Tests.{eq-eqb}
 use Rattle.codec.specs.Bytes.{chunk, le, bytesOf, zeros, sameBytes}
 use Rattle.codec.specs.Lists.{every}
+use Rattle.codec.specs.Laws.{length-zeros}
 use Rattle.names.specs.Names.{sameName, isText, isName, nameFrom, nameBytes}
 use Rattle.numbers.specs.Nodes.{isSize, isNode, has, single, join, without, members}
 use Rattle.numbers.specs.Ids.{isMade, isId, isStamp, isVersion}
@@ -28,6 +29,7 @@ use Rattle.document.specs.Outcomes.{Outcome, refused, done, numberOf, valueOf, 
 use Rattle.document.specs.Calls.{ifSound, onSound, start, nameTaken, anyShown, liveChild, created, createIn, killed, renamed, renameIn, removeIn, pushIn, takeIn, receiveIn, clear, clearIn, pending, pendingSum}
 use Rattle.views.specs.Lists.{In}
 use Rattle.kept.specs.Kept.{Left, start-left}
+use Rattle.kept.specs.Accepted.{tableIn}
 use Rattle.cluster.specs.Cluster.{Node, Cluster, Call, creates, renames, pushes, receives, hears, counts, answer, sends, Handed, after, begun, Later, same, starts, more, idle, Started, Quiet, Agreed}
 use Rattle.cluster.specs.Accepted.{answerIn, answer-in}
 use Rattle.cluster.specs.Reached.{table-back}
@@ -41,10 +43,6 @@ at-table : (f : Table → Outcome) (t : Table) → Left t → onSound (tableByte
 unfolding readSound
 at-table f t s =
     ap (λ (b : Bool). ifSound (cond b (some (tableOf (tableBytes t))) none) f) (s .bytes) ∙ ap f (table-back t s)
-
-abbrev tableIn : Table → Outcome → Table
-tableIn t (refused k) = t
-tableIn t (done v u w) = u
 
 -- ---- two nodes, as tables, and the messages written
 
@@ -347,9 +345,5 @@ first-run lent sized =
     )
 
 -- such bytes there are
-length-zeros : (n : ℕ) → length (zeros n) ≡ n
-length-zeros zero = refl
-length-zeros (suc n) = ap suc (length-zeros n)
-
 pub first-run-there : (c : Cluster) × Instance (λ (i : ℕ). zeros tableSize) c
 first-run-there = first-run (λ (i : ℕ). zeros tableSize) (λ i. length-zeros tableSize)

@@ -4,7 +4,7 @@
 // To believe: Cluster. The theorem: Theorem (demand-3), with Issued (which states are ever issued), Quiet and Runs (the
 // first run of document 01 as an instance). The invariants and why they suffice: Ranks, Sets, Invariants, Facts, Final.
 // One accepted call keeps them, once for every call: Adds, Directory, Settle, Keeps. What each call shows of its own
-// table: Accepted, Issue, Users, Net, Receive. From bytes to tables and back: Honest, Reached, Makes, Begun; Drawn.
+// table: Accepted, Issue, Users, Net, Receive. From bytes to tables and back: Reached, Makes, Begun; Drawn.
 ghost use mathlib.Core.Path.{_≡_};
 
 // The most nodes that a cluster has.

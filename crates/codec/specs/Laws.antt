@@ -1,8 +1,8 @@
--- Laws of `Bytes`, each once, over the width: what a part of a part is, what a splice leaves, numbers and their bytes,
+-- Laws of `Bytes`, each once, over the width: what a part of a part is, splices, zeros, numbers and their bytes,
 -- and how straight-line code that reads or stores byte by byte meets them. Assumes nothing.
-use mathlib.Core.Path.{_≡_, refl, ap, sym, subst, _∙_}
+use mathlib.Core.Path.{_≡_, refl, ap, sym, _∙_}
 use Prim.Native.Nat.{ℕ, zero, suc, _+_, _*_, _-_, _/_, _%_, _^_, _≤_, _<_}
-use native.Mathlib.Nat.{add-zero, zero-add, add-suc, suc-add, add-assoc, mul-assoc, pow-suc, pow-succ'}
+use native.Mathlib.Nat.{add-zero, zero-add, sub-zero, add-suc, suc-add, add-assoc, mul-assoc, pow-suc, pow-succ'}
 use native.Mathlib.Numerals.{add-one}
 use native.Mathlib.Omega.{arith}
 use native.Mathlib.Decide.{decLt}
@@ -10,8 +10,8 @@ use mathlib.Core.List.{List, [], _∷_, _++_, append-assoc, append-nil}
 use lib.Dec.{eqb}
 use mathlib.Core.Bool.{Bool, true, false, _&&_, true≢false}
 use borrow.Author.Tests.{eqb-true, eq-eqb}
-use lib.ListN.{length, take, drop, getD, set, length-append, length-take, length-drop, length-set, List·getD-append, List·getD-eq-default, take-append-drop, drop-of-length-le}
-use lib.Seq.{drop-cons, take-at, drop-at, drop-drop, length-take-le, take-add, ext-getD, getD-take, getD-drop, getD-append-add, drop-nil, take-nil, set-split, take-all, take-length}
+use lib.ListN.{length, take, drop, getD, set, length-append, length-take, length-drop, length-set, List·getD-eq-default, take-append-drop, drop-of-length-le}
+use lib.Seq.{drop-cons, take-at, drop-at, drop-drop, length-take-le, take-add, ext-getD, getD-take, getD-drop, drop-nil, take-nil, set-split, take-all, take-length}
 use Rattle.codec.specs.Bytes.{chunk, splice, le, bytesOf, joined, sameBytes, markedAt, zeroAt, zeros, allAre, Bytes}
 use Rattle.codec.specs.Lists.{every, and-true}
 
@@ -35,31 +35,6 @@ length-bytesOf (suc n) v = ap suc (length-bytesOf n (v / 256))
 pub getD-chunk : (l : List ℕ) (o n i : ℕ) → i < n → getD (chunk l o n) i 0 ≡ getD l (o + i) 0
 unfolding chunk
 getD-chunk l o n i h = rw (getD-take, getD-drop)
-
-pub getD-splice-in : (l : List ℕ) (o : ℕ) (vs : List ℕ) (i : ℕ) → o + length vs ≤ length l → i < length vs → getD (splice l o vs) (o + i) 0 ≡ getD vs i 0
-unfolding splice
-getD-splice-in l o vs i h hi =
-    let e : length (take o l) ≡ o = length-take-le o l (omega arith) in
-    subst (λ (k : ℕ). getD (take o l ++ (vs ++ drop (o + length vs) l)) (k + i) 0 ≡ getD vs i 0) e
-    (rw getD-append-add (List·getD-append vs _ 0 i hi))
-
-pub getD-splice-before : (l : List ℕ) (o : ℕ) (vs : List ℕ) (i : ℕ) → o ≤ length l → i < o → getD (splice l o vs) i 0 ≡ getD l i 0
-unfolding splice
-getD-splice-before l o vs i h hi =
-    let e : i < length (take o l) = omega (arith, length-take-le o l h) in
-    List·getD-append (take o l) _ 0 i e ∙ getD-take o l i 0 hi
-
-pub getD-splice-after : (l : List ℕ) (o : ℕ) (vs : List ℕ) (i : ℕ) → o + length vs ≤ length l → o + length vs ≤ i → getD (splice l o vs) i 0 ≡ getD l i 0
-unfolding splice
-getD-splice-after l o vs i h hi =
-    let e : length (take o l ++ vs) ≡ o + length vs = simp (length-append, length-take-le o l (omega arith)) in
-    let k : length (take o l ++ vs) + (i - (o + length vs)) ≡ i = omega (arith, e) in
-    let j : (o + length vs) + (i - (o + length vs)) ≡ i = omega arith in
-    ap (λ (r : List ℕ). getD r i 0) (sym (append-assoc (take o l) vs _))
-    ∙ ap (λ (m : ℕ). getD ((take o l ++ vs) ++ drop (o + length vs) l) m 0) (sym k)
-    ∙ getD-append-add (take o l ++ vs) _ _ 0
-    ∙ getD-drop (o + length vs) l _ 0
-    ∙ ap (λ (m : ℕ). getD l m 0) j
 
 -- ---- a part of a part
 
@@ -86,31 +61,7 @@ pub chunk-rest : (l : List ℕ) (i : ℕ) → chunk l i (length l - i) ≡ drop 
 unfolding chunk
 chunk-rest l i = take-all (length l - i) (drop i l) (simp length-drop (omega arith))
 
--- ---- what a splice leaves
-
-pub chunk-splice-same : (l : List ℕ) (o : ℕ) (vs : List ℕ) (n : ℕ) → length vs ≡ n → o + n ≤ length l → chunk (splice l o vs) o n ≡ vs
-chunk-splice-same l o vs n e h =
-    let len : length (chunk (splice l o vs) o n) ≡ n = length-chunk _ o n (omega (arith, length-splice l o vs (omega arith))) in
-    ext-getD 0 _ _ (len ∙ sym e)
-    (λ i hi.
-    let him : i < n = omega arith in
-    getD-chunk (splice l o vs) o n i him ∙ getD-splice-in l o vs i (omega arith) (omega arith))
-
-pub chunk-splice-before : (l : List ℕ) (o : ℕ) (vs : List ℕ) (p n : ℕ) → o + length vs ≤ length l → p + n ≤ o → chunk (splice l o vs) p n ≡ chunk l p n
-chunk-splice-before l o vs p n h d =
-    let len : length (chunk (splice l o vs) p n) ≡ n = length-chunk _ p n (omega (arith, length-splice l o vs h)) in
-    ext-getD 0 _ _ (len ∙ sym (length-chunk l p n (omega arith)))
-    (λ i hi.
-    let him : i < n = omega arith in
-    getD-chunk (splice l o vs) p n i him ∙ getD-splice-before l o vs (p + i) (omega arith) (omega arith) ∙ sym (getD-chunk l p n i him))
-
-pub chunk-splice-after : (l : List ℕ) (o : ℕ) (vs : List ℕ) (p n : ℕ) → p + n ≤ length l → o + length vs ≤ p → chunk (splice l o vs) p n ≡ chunk l p n
-chunk-splice-after l o vs p n h d =
-    let len : length (chunk (splice l o vs) p n) ≡ n = length-chunk _ p n (omega (arith, length-splice l o vs (omega arith))) in
-    ext-getD 0 _ _ (len ∙ sym (length-chunk l p n h))
-    (λ i hi.
-    let him : i < n = omega arith in
-    getD-chunk (splice l o vs) p n i him ∙ getD-splice-after l o vs (p + i) (omega arith) (omega arith) ∙ sym (getD-chunk l p n i him))
+-- ---- splices
 
 -- two splices, one after the other, are one
 pub splice-splice : (l : List ℕ) (o : ℕ) (xs : List ℕ) (n : ℕ) (ys : List ℕ) → length xs ≡ n → o + n + length ys ≤ length l → splice (splice l o xs) (o + n) ys ≡ splice l o (xs ++ ys)
@@ -142,6 +93,26 @@ splice-front l o src rest h e =
     let all : take (length l - o) (drop o l) ≡ drop o l = chunk-rest l o in
     let none : drop (length l - o) (drop o l) ≡ [] = drop-of-length-le (drop o l) {i = length l - o} (simp length-drop (omega arith)) in
     rw (none, append-nil, e, all, take-length, drop-drop)
+
+-- ---- zeros: how many, tested, in two parts, and without the first k
+
+pub length-zeros : (n : ℕ) → length (zeros n) ≡ n
+length-zeros zero = refl
+length-zeros (suc n) = ap suc (length-zeros n)
+
+pub all-zeros : (n : ℕ) → allAre 0 (zeros n) ≡ true
+unfolding every
+all-zeros zero = refl
+all-zeros (suc n) = all-zeros n
+
+pub zeros-add : (m n : ℕ) → zeros (m + n) ≡ zeros m ++ zeros n
+zeros-add zero n = ap zeros (zero-add n)
+zeros-add (suc m) n = rw suc-add (ap (λ (l : List ℕ). 0 ∷ l) (zeros-add m n))
+
+pub drop-zeros : (n k : ℕ) → drop k (zeros n) ≡ zeros (n - k)
+drop-zeros n zero = rw sub-zero
+drop-zeros zero (suc k) = ap zeros {x = 0} {y = 0 - suc k} (omega arith)
+drop-zeros (suc n) (suc k) = drop-zeros n k ∙ ap zeros {x = n - k} {y = suc n - suc k} (omega arith)
 
 -- ---- numbers
 
@@ -201,6 +172,10 @@ le-none l o = refl
 
 pub u32-bytes : (l : List ℕ) (o : ℕ) → le (chunk l o 4) ≡ getD l o 0 + 256 * (getD l (o + 1) 0 + 256 * (getD l (o + 2) 0 + 256 * getD l (o + 3) 0))
 u32-bytes l o = omega (arith, rw add-zero at (le-step-at l o 0 3), le-step-at l o 1 2, le-step-at l o 2 1, le-step-at l o 3 0, le-none l (o + 4))
+
+-- four bytes are below 2^32
+pub u32-below : (l : List ℕ) (o : ℕ) → Bytes l → le (chunk l o 4) < 2 ^ 32
+u32-below l o b = omega (arith, u32-bytes l o, b o, b (o + 1), b (o + 2), b (o + 3))
 
 pub u64-halves : (l : List ℕ) (o : ℕ) → o + 8 ≤ length l → le (chunk l o 8) ≡ le (chunk l o 4) + 4294967296 * le (chunk l (o + 4) 4)
 u64-halves l o h =

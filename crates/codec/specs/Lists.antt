@@ -4,7 +4,7 @@ use mathlib.Core.Path.{_≡_, refl, ap, sym, _∙_}
 use Prim.Native.Nat.{ℕ, _+_, _≤_, _<_}
 use native.Mathlib.Numerals.{add-one}
 use mathlib.Core.Bool.{Bool, true, false, _&&_, _||_, not, true≢false}
-use mathlib.Core.List.{List, [], _∷_}
+use mathlib.Core.List.{List, [], _∷_, List·Memᴰ, List·Memᴰ·head, List·Memᴰ·tail}
 use lib.ListN.{length, getD, drop, drop-of-length-le}
 use lib.Seq.{drop-cons}
 use borrow.Author.Tests.{not-true, not-false}
@@ -44,9 +44,21 @@ pub and-true : (a b : Bool) → (a && b) ≡ true → (a ≡ true) × (b ≡ tru
 and-true true b h = (refl, h)
 and-true false b h = absurd (true≢false (sym h))
 
+pub and-both : {a b : Bool} → a ≡ true → b ≡ true → (a && b) ≡ true
+and-both {a} {b} p q = sym (and-go a b p (sym q))
+
 pub and-right : (b : Bool) → (b && true) ≡ b
 and-right true = refl
 and-right false = refl
+
+-- an implication, and two tests that say the same
+pub implied : (a b : Bool) → (not a || b) ≡ true → a ≡ true → b ≡ true
+implied a b h e = sym (ap (λ (x : Bool). not x || b) e) ∙ h
+
+pub both-ways : (a b : Bool) → (a ≡ true → b ≡ true) → (b ≡ true → a ≡ true) → a ≡ b
+both-ways true b f g = sym (f refl)
+both-ways false true f g = g refl
+both-ways false false f g = refl
 
 -- what a callee's answer r says of the test a that it stands for, where `if !r` was taken and where it was left
 pub failed : {r a : Bool} → r ≡ a → not r ≡ true → a ≡ false
@@ -54,3 +66,11 @@ failed {r} e h = sym e ∙ not-true r h
 
 pub passed : {r a : Bool} → r ≡ a → not r ≡ false → a ≡ true
 passed {r} e h = sym e ∙ not-false r h
+
+-- ---- members
+
+-- what holds of every element holds of a member
+pub every-member : {A : Type 0} (f : A → Bool) {l : List A} {x : A} → List·Memᴰ x l → every f l ≡ true → f x ≡ true
+unfolding every
+every-member f (List·Memᴰ·head {x = y} {xs = ys} e) h = ap f e ∙ and-true (f y) (every f ys) h .0
+every-member f (List·Memᴰ·tail {x = y} {xs = ys} m) h = every-member f m (and-true (f y) (every f ys) h .1)

@@ -1,15 +1,15 @@
 -- The examples P1 to P12 of document 01 as one table: each row has what the definitions give and what the document says,
 -- and one theorem says that every row agrees. Every example goes through the calls, or the steps, that it is about.
 -- Assumes nothing.
-use mathlib.Core.Path.{_≡_, refl, ap, _∙_}
+use mathlib.Core.Path.{_≡_, refl}
 use mathlib.Core.Bool.{Bool, true}
 use mathlib.Core.Option.{Option, some, none}
-use mathlib.Core.List.{List, [], _∷_, _++_, map, List·Memᴰ, List·Memᴰ·head, List·Memᴰ·tail}
+use mathlib.Core.List.{List, [], _∷_, _++_, map, List·Memᴰ}
 use Prim.Native.Nat.{ℕ, zero, suc, _+_}
 use lib.ListN.{length}
 use Rattle.codec.specs.Bytes.{chunk, le, bytesOf, sameBytes, zeros}
 use Rattle.codec.specs.Laws.{same-eq}
-use Rattle.codec.specs.Lists.{every, and-true}
+use Rattle.codec.specs.Lists.{every, every-member}
 use Rattle.names.specs.Names.{sameName, isText, isName, nameFrom}
 use Rattle.numbers.specs.Nodes.{has, single, join, without}
 use Rattle.numbers.specs.Ids.{idOf, isMade, isId, isStamp, isVersion}
@@ -203,11 +203,6 @@ every-row = refl
 
 -- ---- so in each row the definitions give what the document says
 
-member : {A : Type 0} (f : A → Bool) {l : List A} {x : A} → List·Memᴰ x l → every f l ≡ true → f x ≡ true
-unfolding every
-member f (List·Memᴰ·head {x = y} {xs = ys} e) h = ap f e ∙ and-true (f y) (every f ys) h .0
-member f (List·Memᴰ·tail {x = y} {xs = ys} m) h = member f m (and-true (f y) (every f ys) h .1)
-
 pub row-holds : {r : Row} → List·Memᴰ r examples → r .got ≡ r .want
 unfolding agrees
-row-holds {r} m = same-eq (r .got) (r .want) (member agrees m every-row)
+row-holds {r} m = same-eq (r .got) (r .want) (every-member agrees m every-row)

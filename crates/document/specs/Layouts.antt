@@ -12,12 +12,13 @@ use Rattle.codec.specs.Bytes.{chunk, bytesOf, zeros, sameBytes, markedAt, zeroA
 use Rattle.codec.specs.Laws.{length-chunk}
 use Rattle.codec.specs.Lists.{every, and-true, and-right}
 use Rattle.names.specs.declared.Name.{Name}
-use Rattle.numbers.specs.Nodes.{isWithin, isSet, isNode}
+use Rattle.numbers.specs.Nodes.{isSet, isNode}
 use Rattle.numbers.specs.Ids.{maker, clockOf, isId, isMade, isStamp, isVersion}
 use Rattle.records.specs.declared.head.Head.{Head}
 use Rattle.records.specs.declared.entry.Entry.{Entry}
 use Rattle.records.specs.Heads.{headMark, headBytes, headOf, headFits, headInRange, isOrdinary, isRoot, rootHead, root-is, HeadFit, head-judged}
 use Rattle.records.specs.Entries.{entryMark, entryBytes, entryOf, entryFits, entryInRange, EntryFit, entry-judged}
+use Rattle.records.specs.Ordinary.{fields-of}
 use Rattle.slots.specs.declared.replica.Replica.{Replica}
 use Rattle.slots.specs.declared.listed.Listed.{Listed}
 use Rattle.slots.specs.Replicas.{replicaBytes, replicaOf, replicaInRange, ReplicaFit, replica-round, replica-back, length-replicaBytes}
@@ -70,19 +71,12 @@ version-below v e = ltb-true v (2 ^ 32) (and-true (leb 1 v) _ e .1)
 
 -- a head: one that is not the root's, and either
 ordinary-fit : (n : ℕ) (h : Head) → n ≤ 8 → isOrdinary n h ≡ true → isFull (h .name) ≡ true → HeadFit h
-unfolding isOrdinary
 ordinary-fit n h m e f =
-    let kind = and-true (isWithin 1 (h .kind) 2) _ e in
-    let live = and-true (leb (h .live) 1) _ (kind .1) in
-    let id = and-true (isMade n (h .id)) _ (live .1) in
-    let stamp = and-true (isStamp n (h .stamp)) _ (id .1) in
-    let holders = and-true (isSet n (h .holders)) _ (stamp .1) in
-    let depth = and-true (isWithin 1 (h .depth) 16) _ (holders .1) in
-    let directory = and-true (isId n (h .directory)) _ (depth .1) in
+    let o = fields-of n h e in
     record {
-      id = made-below n (h .id) m (id .0);
-      stamp = stamp-below n (h .stamp) (stamp .0);
-      directory = id-below n (h .directory) m (directory .0);
+      id = made-below n (h .id) m (o .made);
+      stamp = stamp-below n (h .stamp) (o .stamp);
+      directory = id-below n (h .directory) m (o .directory);
       bytes = eqb-true _ 15 f;
     }
 
@@ -131,7 +125,7 @@ listed-fit n x m e =
 -- ---- written: where the parts stand, and that they are in range
 
 -- the parts of a replica and of an entry slot that are written
-replica-head : (r : Replica) → chunk (replicaBytes r) 0 40 ≡ headBytes (r .head)
+pub replica-head : (r : Replica) → chunk (replicaBytes r) 0 40 ≡ headBytes (r .head)
 unfolding replicaBytes headBytes bytesOf chunk
 replica-head r = refl
 
@@ -139,7 +133,7 @@ replica-zeros : (r : Replica) → zeroAt (replicaBytes r) 45 3 ≡ true
 unfolding replicaBytes headBytes bytesOf chunk every
 replica-zeros r = refl
 
-listed-entry : (x : Listed) → chunk (listedBytes x) 0 32 ≡ entryBytes (x .entry)
+pub listed-entry : (x : Listed) → chunk (listedBytes x) 0 32 ≡ entryBytes (x .entry)
 unfolding listedBytes entryBytes bytesOf chunk
 listed-entry x = refl
 

@@ -1,9 +1,9 @@
 -- "Where several hold, the lowest number is given.": the refusals of each call ascend, and of an ascending list the lowest
--- that holds is given. Assumes nothing.
+-- that holds is given, and none that does not hold. Assumes nothing.
 use mathlib.Core.Path.{_≡_, refl, ap, sym, subst, _∙_}
 use mathlib.Core.Bool.{Bool, true, false, _&&_, cond, true≢false}
 use mathlib.Core.Logic.{_⊎_, inl, inr}
-use mathlib.Core.List.{List, [], _∷_, List·Memᴰ, List·Memᴰ·cases-cons}
+use mathlib.Core.List.{List, [], _∷_, List·Memᴰ, List·Memᴰ·head, List·Memᴰ·tail, List·Memᴰ·cases-cons}
 use Prim.Native.Nat.{ℕ, _≤_, _<_}
 use native.Mathlib.Omega.{arith}
 use lib.Dec.{ltb}
@@ -12,7 +12,7 @@ use Rattle.codec.specs.Lists.{and-true}
 use Rattle.messages.specs.declared.acknowledgement.Acknowledgement.{Acknowledgement}
 use Rattle.document.specs.Tables.{Table}
 use Rattle.document.specs.Messages.{Push}
-use Rattle.document.specs.Outcomes.{Outcome, refused, Refusal, judged}
+use Rattle.document.specs.Outcomes.{Outcome, refused, numberOf, Refusal, judged}
 use Rattle.document.specs.Calls.{startRefusals, createRefusals, unlinkRefusals, renameRefusals, removeRefusals, spreadRefusals, listRefusals, pushRefusals, receiveRefusals, takeRefusals, clearRefusals}
 
 -- each number is above k and above those before it
@@ -47,6 +47,25 @@ lowest k (x ∷ xs) o a r m h =
     go true e (inr i) up ih = (x .number, refl, omega (arith, up i))
     go false e (inl q) up ih = absurd (true≢false (sym h ∙ ap (λ (y : Refusal). y .holds) q ∙ e))
     go false e (inr i) up ih = ih i
+
+-- and the other way round: a number that is given is that of a refusal that holds, or comes from what follows the list
+pub given : (rs : List Refusal) (o : Outcome) (n : ℕ) → judged rs o ≡ refused n →
+    ((r : Refusal) × List·Memᴰ r rs × (r .holds ≡ true) × (r .number ≡ n)) ⊎ (o ≡ refused n)
+unfolding judged
+given [] o n e = inr e
+given (x ∷ xs) o n e = go (x .holds) refl e (given xs o n)
+  where
+    later : ((r : Refusal) × List·Memᴰ r xs × (r .holds ≡ true) × (r .number ≡ n)) ⊎ (o ≡ refused n) →
+        ((r : Refusal) × List·Memᴰ r (x ∷ xs) × (r .holds ≡ true) × (r .number ≡ n)) ⊎ (o ≡ refused n)
+    later (inl (r, m, h, k)) = inl (r, List·Memᴰ·tail m, h, k)
+    later (inr q) = inr q
+
+    go : (b : Bool) → x .holds ≡ b → cond b (refused (x .number)) (judged xs o) ≡ refused n →
+        (judged xs o ≡ refused n →
+        ((r : Refusal) × List·Memᴰ r xs × (r .holds ≡ true) × (r .number ≡ n)) ⊎ (o ≡ refused n)) →
+        ((r : Refusal) × List·Memᴰ r (x ∷ xs) × (r .holds ≡ true) × (r .number ≡ n)) ⊎ (o ≡ refused n)
+    go true h q ih = inl (x, List·Memᴰ·head refl, h, ap numberOf q)
+    go false h q ih = later (ih q)
 
 -- ---- the lists of the calls: each stands behind 1, and the two that judge a message behind 4
 

@@ -1,4 +1,5 @@
 -- "What comes back": a call is refused, or done with a value, a table and what it wrote. Assumes nothing.
+use mathlib.Core.Path.{_≡_, refl}
 use mathlib.Core.Bool.{Bool, cond}
 use mathlib.Core.List.{List, [], _∷_}
 use Prim.Native.Nat.{ℕ}
@@ -37,3 +38,8 @@ pub record Refusal : Type 0 where
 unfoldable pub judged : List Refusal → Outcome → Outcome
 judged [] o = o
 judged (r ∷ rs) o = cond (r .holds) (refused (r .number)) (judged rs o)
+
+-- where no refusal is left, the outcome is what was to be
+pub all-passed : (o : Outcome) → judged [] o ≡ o
+unfolding judged
+all-passed o = refl

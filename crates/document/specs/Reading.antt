@@ -5,24 +5,27 @@ use mathlib.Core.Logic.{_↔_}
 use mathlib.Core.Bool.{Bool, true, false, _&&_, cond}
 use mathlib.Core.Option.{Option, some, none}
 use mathlib.Core.List.{List, [], _++_, append-assoc, append-nil}
-use Prim.Native.Nat.{ℕ, _*_, _-_, _^_, _≤_, _<_}
+use Prim.Native.Nat.{ℕ, _+_, _*_, _-_, _^_, _≤_, _<_}
 use native.Mathlib.Omega.{arith}
 use lib.Dec.{eqb, leb}
 use lib.ListN.{length, drop, length-append}
 use borrow.Author.Tests.{eqb-true, leb-true, ltb-true, eq-eqb, le-leb}
-use Rattle.codec.specs.Bytes.{chunk, zeros, markedAt, zeroAt, Bytes}
-use Rattle.codec.specs.Laws.{length-chunk, bytes-chunk, chunk-add, chunk-whole}
-use Rattle.codec.specs.Lists.{every, and-true, and-go}
+use Rattle.codec.specs.Bytes.{chunk, zeros, markedAt, zeroAt, Bytes, u8At}
+use Rattle.codec.specs.Laws.{length-chunk, bytes-chunk, chunk-add, chunk-whole, getD-chunk}
+use Rattle.codec.specs.Lists.{every, and-true, and-both}
 use Rattle.numbers.specs.Nodes.{isWithin, isSize, isNode}
+use Rattle.records.specs.declared.entry.Entry.{Entry}
+use Rattle.records.specs.Entries.{entry-fields}
 use Rattle.slots.specs.declared.table_header.TableHeader.{TableHeader}
 use Rattle.slots.specs.declared.replica.Replica.{Replica}
 use Rattle.slots.specs.declared.listed.Listed.{Listed}
 use Rattle.slots.specs.TableHeaders.{tableMark, tableHeaderBytes, tableHeaderOf, tableHeaderFits, tableHeaderInRange, TableHeaderFit, table-round, table-back, table-judged, length-tableHeaderBytes}
 use Rattle.slots.specs.Replicas.{replicaBytes, replicaInRange}
-use Rattle.slots.specs.Listings.{listedBytes, listedInRange}
+use Rattle.slots.specs.Listings.{listedBytes, listedInRange, listed-fields}
 use Rattle.document.specs.Tables.{Table, headerOf, rows, padded, tableBytes, replicasUsed, entriesUsed, slotsFrom, everySlot, replicaSlot, entrySlot, replicaIn, entryIn, tableOf, tableInRange, replicaFits, listedFits, fits, readTable}
 use Rattle.document.specs.Rows.{length-padded, padding, used-rows, slots-rows, range-rows, zero-rows, used-le, good-slots, padded-slots, length-slots, chunk-front, drop-front, every-both, every-each}
 use Rattle.document.specs.Layouts.{fullReplica, fullListed, replicaLayout, listedLayout}
+use Rattle.document.specs.Sound.{sound, soundBytes}
 
 -- what a table has beside being in range: every name in it has fifteen bytes
 pub record Shaped (t : Table) : Type 0 where
@@ -155,10 +158,6 @@ entriesRange n l = everySlot (λ (s : ℕ). listedInRange n (chunk l (entrySlot 
 abbrev entriesZero : List ℕ → Bool
 entriesZero l = zeroAt l (entrySlot (entriesUsed l)) (40 * (256 - entriesUsed l))
 
--- both tests hold
-pub and-both : {a b : Bool} → a ≡ true → b ≡ true → (a && b) ≡ true
-and-both {a} {b} p q = sym (and-go a b p (sym q))
-
 -- two tables with the same parts are one
 pub parts-ext : {a b : Table} → headerOf a ≡ headerOf b → a .replicas ≡ b .replicas → a .entries ≡ b .entries → a ≡ b
 parts-ext h r e =
@@ -251,6 +250,13 @@ record Ranges (l : List ℕ) : Type 0 where
   entries : entriesRange (tableOf l .nodes) l ≡ true
   entries-zero : entriesZero l ≡ true
 
+-- the used slots are within the table
+pub few-replicas : (l : List ℕ) → replicasUsed l ≤ 64
+few-replicas l = used-le (replicaLayout 0 (omega arith)) l 32 64
+
+pub few-entries : (l : List ℕ) → entriesUsed l ≤ 256
+few-entries l = used-le (listedLayout 0 (omega arith)) l 3104 256
+
 -- test by test
 ranges-of : (l : List ℕ) → tableInRange l ≡ true → Ranges l
 unfolding tableInRange
@@ -284,13 +290,6 @@ module _ (l : List ℕ) (inside : tableInRange l ≡ true) where
   few-nodes : tableOf l .nodes ≤ 8
   few-nodes = header-nodes (headerOf (tableOf l)) header-fits
 
-  -- the used slots are within the table
-  replicas-few : replicasUsed l ≤ 64
-  replicas-few = used-le (replicaLayout 0 (omega arith)) l 32 64
-
-  entries-few : entriesUsed l ≤ 256
-  entries-few = used-le (listedLayout 0 (omega arith)) l 3104 256
-
   -- each replica and each entry is in range, and its name has fifteen bytes
   replicas-good :
       (every (replicaFits (tableOf l .nodes)) (tableOf l .replicas) ≡ true)
@@ -299,7 +298,7 @@ module _ (l : List ℕ) (inside : tableInRange l ≡ true) where
   replicas-good =
       every-each (replicaFits (tableOf l .nodes)) fullReplica (tableOf l .replicas)
       (good-slots (replicaLayout (tableOf l .nodes) few-nodes) l 32 0 (replicasUsed l)
-      (omega (arith, replicas-few, ranges .size)) (ranges .replicas))
+      (omega (arith, few-replicas l, ranges .size)) (ranges .replicas))
 
   entries-good :
       (every (listedFits (tableOf l .nodes)) (tableOf l .entries) ≡ true)
@@ -308,7 +307,7 @@ module _ (l : List ℕ) (inside : tableInRange l ≡ true) where
   entries-good =
       every-each (listedFits (tableOf l .nodes)) fullListed (tableOf l .entries)
       (good-slots (listedLayout (tableOf l .nodes) few-nodes) l 3104 0 (entriesUsed l)
-      (omega (arith, entries-few, ranges .size)) (ranges .entries))
+      (omega (arith, few-entries l, ranges .size)) (ranges .entries))
 
   -- the table that bytes in range are is in range, and every name in it has fifteen bytes
   pub table-shaped : Shaped (tableOf l)
@@ -318,9 +317,9 @@ module _ (l : List ℕ) (inside : tableInRange l ≡ true) where
   unfolding fits tableOf
   table-in-range =
       and-both header-fits
-      (and-both (le-leb (length (tableOf l .replicas)) 64 (rw length-slots replicas-few))
+      (and-both (le-leb (length (tableOf l .replicas)) 64 (rw length-slots (few-replicas l)))
       (and-both (replicas-good .0)
-      (and-both (le-leb (length (tableOf l .entries)) 256 (rw length-slots entries-few)) (entries-good .0))))
+      (and-both (le-leb (length (tableOf l .entries)) 256 (rw length-slots (few-entries l))) (entries-good .0))))
 
   -- its bytes are those
   pub bytes-of-table : Bytes l → tableBytes (tableOf l) ≡ l
@@ -331,16 +330,47 @@ module _ (l : List ℕ) (inside : tableInRange l ≡ true) where
       (ranges .header) in
       let replicas : replicaPart (tableOf l) ≡ chunk l 32 3072 =
       padded-slots (replicaLayout (tableOf l .nodes) few-nodes) l 32 64 (replicasUsed l) y
-      (omega (arith, ranges .size)) replicas-few (ranges .replicas) (ranges .replicas-zero) in
+      (omega (arith, ranges .size)) (few-replicas l) (ranges .replicas) (ranges .replicas-zero) in
       let entries : entryPart (tableOf l) ≡ chunk l 3104 10240 =
       padded-slots (listedLayout (tableOf l .nodes) few-nodes) l 3104 256 (entriesUsed l) y
-      (omega (arith, ranges .size)) entries-few (ranges .entries) (ranges .entries-zero) in
+      (omega (arith, ranges .size)) (few-entries l) (ranges .entries) (ranges .entries-zero) in
       ap (λ (c : List ℕ). c ++ (replicaPart (tableOf l) ++ entryPart (tableOf l))) header
       ∙ ap (λ (c : List ℕ). chunk l 0 32 ++ (c ++ entryPart (tableOf l))) replicas
       ∙ ap (λ (c : List ℕ). chunk l 0 32 ++ (chunk l 32 3072 ++ c)) entries
       ∙ ap (λ (c : List ℕ). chunk l 0 32 ++ c) (sym (chunk-add l 32 3072 10240))
       ∙ sym (chunk-add l 0 32 13312)
       ∙ chunk-whole l 13344 (ranges .size)
+
+-- ---- sound bytes
+
+-- they are as long as a table, the table that they are is sound, and every name in it has fifteen bytes
+module _ (l : List ℕ) (s : soundBytes l ≡ true) where
+  pub sound-length : 13344 ≤ length l
+  unfolding soundBytes
+  sound-length = omega (arith, ranges-of l (and-true (tableInRange l) _ s .0) .size)
+
+  pub bytes-sound : sound (tableOf l) ≡ true
+  unfolding sound soundBytes
+  bytes-sound = let p = and-true (tableInRange l) _ s in and-both (table-in-range l (p .0)) (p .1)
+
+  pub sound-shaped : Shaped (tableOf l)
+  unfolding soundBytes
+  sound-shaped = table-shaped l (and-true (tableInRange l) _ s .0)
+
+-- ---- fields, read in place
+
+-- whose table it is
+pub own-at : (l : List ℕ) → u8At l 2 ≡ tableOf l .own
+unfolding tableOf tableHeaderOf
+own-at l = sym (getD-chunk l 0 32 2 (omega arith))
+
+-- whether an entry is live
+pub live-at : (l : List ℕ) (s : ℕ) → entryIn l s .entry .live ≡ u8At l (entrySlot s + 2)
+live-at l s =
+    ap (λ (x : Listed). x .entry .live) (listed-fields l (entrySlot s))
+    ∙ ap (λ (e : Entry). e .live) (entry-fields l (entrySlot s))
+
+-- ---- exactly
 
 -- what is read from bytes is a table in range, and the bytes are its own
 pub write-read : (l : List ℕ) → Bytes l → (t : Table) → readTable l ≡ some t →

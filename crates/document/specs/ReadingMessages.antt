@@ -14,7 +14,7 @@ use lib.ListN.{length, take, drop, length-append}
 use borrow.Author.Tests.{eqb-true, leb-true, eq-eqb, le-leb}
 use Rattle.codec.specs.Bytes.{chunk, zeros, sameBytes, markedAt, zeroAt, Bytes}
 use Rattle.codec.specs.Laws.{length-chunk, bytes-chunk, chunk-add, chunk-whole}
-use Rattle.codec.specs.Lists.{every, and-true}
+use Rattle.codec.specs.Lists.{every, and-true, and-both}
 use Rattle.numbers.specs.Nodes.{isWithin, isNode}
 use Rattle.numbers.specs.Ids.{isVersion}
 use Rattle.records.specs.declared.head.Head.{Head}
@@ -29,7 +29,6 @@ use Rattle.document.specs.Tables.{rows, slotsFrom, everySlot}
 use Rattle.document.specs.Messages.{Push, headerOfPush, messageBytes, headSpot, entrySpot, messageOf, messageInRange, hangsTogether, readPush, readAck}
 use Rattle.document.specs.Rows.{Layout, length-rows, slots-rows, range-rows, rows-slots, good-slots, length-slots, chunk-front, drop-front, every-both, every-each}
 use Rattle.document.specs.Layouts.{isFull, version-below, id-below, head-fit, entry-fit, head-range-fits, entry-range-fits, head-full, entry-full}
-use Rattle.document.specs.Reading.{and-both}
 
 -- ---- heads and entries, each as a layout of `Rows`
 
@@ -101,6 +100,10 @@ entryLayout n m =
 -- its heads, the pushed replica's first
 abbrev pub headsOf : Push → List Head
 headsOf p = p .first ∷ p .above
+
+-- the head that stands i-th in a message
+abbrev pub headIn : List ℕ → ℕ → Head
+headIn l i = headAt l (headSpot i)
 
 -- what a push has beside being in range: every name in it has fifteen bytes
 pub record ShapedPush (p : Push) : Type 0 where

@@ -3,14 +3,14 @@
 -- Assumes nothing.
 use mathlib.Core.Path.{_≡_, refl, ap, sym, _∙_}
 use mathlib.Core.Bool.{Bool, true, false, _&&_, cond}
-use mathlib.Core.List.{List, [], _∷_, _++_, append-assoc}
+use mathlib.Core.List.{List, [], _∷_, _++_, append-assoc, append-nil}
 use Prim.Native.Nat.{ℕ, zero, suc, _+_, _*_, _-_, _≤_}
 use native.Mathlib.Nat.{add-zero, add-suc, suc-add, zero-add, sub-zero, mul-zero, mul-suc, mul-add, mul-sub, mul-le-mul-left}
 use native.Mathlib.Omega.{arith}
 use lib.ListN.{length, take, drop, length-append}
 use lib.Seq.{take-at, drop-at, drop-drop}
-use Rattle.codec.specs.Bytes.{chunk, zeros, sameBytes, allAre, markedAt, zeroAt, Bytes}
-use Rattle.codec.specs.Laws.{length-chunk, bytes-chunk, chunk-add, zeros-back}
+use Rattle.codec.specs.Bytes.{chunk, zeros, sameBytes, allAre, markedAt, zeroAt, Bytes, splice}
+use Rattle.codec.specs.Laws.{length-chunk, bytes-chunk, chunk-add, zeros-back, length-zeros, all-zeros, zeros-add, splice-splice, splice-none}
 use Rattle.codec.specs.Lists.{every, and-true}
 use Rattle.document.specs.Tables.{rows, padded, used, slotsFrom, everySlot}
 
@@ -33,20 +33,6 @@ pub record Layout (A : Type 0) : Type 0 where
 
 -- ---- strings and lists
 
--- n zeros, in two parts, and tested
-length-zeros : (n : ℕ) → length (zeros n) ≡ n
-length-zeros zero = refl
-length-zeros (suc n) = ap suc (length-zeros n)
-
-zeros-add : (m n : ℕ) → zeros (m + n) ≡ zeros n ++ zeros m
-zeros-add m zero = rw add-zero
-zeros-add m (suc n) = rw add-suc (ap (λ (r : List ℕ). 0 ∷ r) (zeros-add m n))
-
-all-zeros : (n : ℕ) → allAre 0 (zeros n) ≡ true
-unfolding every
-all-zeros zero = refl
-all-zeros (suc n) = all-zeros n
-
 -- where a string is known from o on: its first part, and what stands behind that
 pub chunk-front : (l a r : List ℕ) (o n : ℕ) → drop o l ≡ a ++ r → length a ≡ n → chunk l o n ≡ a
 unfolding chunk
@@ -60,6 +46,42 @@ pub length-slots : {A : Type 0} (f : ℕ → A) (s n : ℕ) → length (slotsFro
 unfolding slotsFrom
 length-slots f s zero = refl
 length-slots f s (suc n) = ap suc (length-slots f (suc s) n)
+
+-- records written one behind the other: none, one, two lists of them, and how long they are
+pub rows-none : {A : Type 0} (f : A → List ℕ) → rows f [] ≡ []
+unfolding rows
+rows-none f = refl
+
+pub rows-one : {A : Type 0} (f : A → List ℕ) (x : A) → rows f (x ∷ []) ≡ f x
+unfolding rows
+rows-one f x = append-nil (f x)
+
+pub rows-append : {A : Type 0} (f : A → List ℕ) (xs ys : List A) → rows f (xs ++ ys) ≡ rows f xs ++ rows f ys
+unfolding rows
+rows-append f [] ys = refl
+rows-append f (x ∷ xs) ys =
+    ap (λ (r : List ℕ). f x ++ r) (rows-append f xs ys) ∙ sym (append-assoc (f x) (rows f xs) (rows f ys))
+
+pub rows-length : {A : Type 0} (f : A → List ℕ) (w : ℕ) → ((x : A) → length (f x) ≡ w) → (xs : List A) →
+    length (rows f xs) ≡ w * length xs
+unfolding rows
+rows-length f w e [] = rw mul-zero
+rows-length f w e (x ∷ xs) = rw (length-append, e x, rows-length f w e xs, mul-suc) (omega arith)
+
+-- some written, and then the rest behind them
+pub rows-written : {A : Type 0} (f : A → List ℕ) (w : ℕ) → ((x : A) → length (f x) ≡ w) → (out : List ℕ) (o : ℕ)
+    (xs ys : List A) → o + w * length xs + w * length ys ≤ length out →
+    splice (splice out o (rows f xs)) (o + w * length xs) (rows f ys) ≡ splice out o (rows f (xs ++ ys))
+rows-written f w e out o xs ys h =
+    splice-splice out o (rows f xs) (w * length xs) (rows f ys) (rows-length f w e xs)
+    (omega (arith, rows-length f w e ys))
+    ∙ ap (splice out o) (sym (rows-append f xs ys))
+
+-- nothing is left to write
+pub rows-end : {A : Type 0} (f : A → List ℕ) (out : List ℕ) (o : ℕ) {xs : List A} → xs ≡ [] →
+    out ≡ splice out o (rows f xs)
+rows-end f out o e =
+    splice-none out o ∙ ap (splice out o) (sym (rows-none f)) ∙ ap (λ xs. splice out o (rows f xs)) (sym e)
 
 -- two tests on every element, together and each by itself
 pub every-both : {A : Type 0} (f g : A → Bool) (xs : List A) → every f xs ≡ true → every g xs ≡ true →
@@ -103,9 +125,7 @@ module _ {A : Type 0} (L : Layout A) where
 
   -- how long they are, used slots and all
   pub length-rows : (xs : List A) → length (bytesAll xs) ≡ L .width * length xs
-  unfolding rows
-  length-rows [] = rw mul-zero
-  length-rows (x ∷ xs) = rw (length-append, L .sized x, length-rows xs, mul-suc) (omega arith)
+  length-rows xs = rows-length (L .bytes) (L .width) (L .sized) xs
 
   -- what n slots leave to the free ones
   pub padding : (n : ℕ) (xs : List A) → L .width * n - length (bytesAll xs) ≡ L .width * (n - length xs)
@@ -150,9 +170,9 @@ module _ {A : Type 0} (L : Layout A) where
   unfolding used rows chunk
   used-rows l r o zero [] h e = refl
   used-rows l r o (suc n) [] h e =
-      let k : L .width * (suc n - 0) ≡ L .width * n + L .width = rw sub-zero (mul-suc (L .width) n) in
+      let k : L .width * (suc n - 0) ≡ L .width + L .width * n = rw (sub-zero, mul-suc) (omega arith) in
       let f : drop o l ≡ zeros (L .width) ++ (zeros (L .width * n) ++ r) =
-      e ∙ ap (λ (m : ℕ). zeros m ++ r) k ∙ ap (λ (z : List ℕ). z ++ r) (zeros-add (L .width * n) (L .width))
+      e ∙ ap (λ (m : ℕ). zeros m ++ r) k ∙ ap (λ (z : List ℕ). z ++ r) (zeros-add (L .width) (L .width * n))
       ∙ append-assoc (zeros (L .width)) (zeros (L .width * n)) r in
       rw (f, L .unmarked)
   used-rows l r o zero (x ∷ xs) h e = absurd (omega arith)

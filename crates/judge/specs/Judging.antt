@@ -13,23 +13,21 @@ use Rattle.codec.specs.Bytes.{chunk, markedAt, zeroAt}
 use Rattle.codec.specs.Lists.{every, and-true}
 use Rattle.numbers.specs.Nodes.{isWithin, isNode}
 use Rattle.numbers.specs.Ids.{isVersion}
+use Rattle.numbers.specs.Laws.{size-most}
 use Rattle.records.specs.declared.head.Head.{Head}
 use Rattle.records.specs.declared.entry.Entry.{Entry}
-use Rattle.records.specs.Heads.{headAt}
 use Rattle.records.specs.Entries.{entryAt}
 use Rattle.messages.specs.declared.push_header.PushHeader.{PushHeader}
 use Rattle.messages.specs.PushHeaders.{pushMark, pushAt, pushFits, pushInRange}
 use Rattle.slots.specs.declared.listed.Listed.{Listed}
-use Rattle.document.specs.Tables.{Table, headOf, findEntry, entryOf?, everySlot, tableInRange, tableOf}
+use Rattle.document.specs.Tables.{Table, headOf, findEntry, entryOf?, everySlot, tableOf}
 use Rattle.document.specs.Sound.{isDirectory, soundBytes}
 use Rattle.document.specs.Steps.{samePlace, atOdds, oddJoin, oddAll}
-use Rattle.document.specs.Messages.{Push, headSpot, entrySpot, messageOf, messageInRange, readPush}
+use Rattle.document.specs.Messages.{Push, entrySpot, messageOf, messageInRange, readPush}
 use Rattle.document.specs.Receive.{stepA, stepC, taken, listedIn, joinedIn, setIfMade, setAbove, setIfTaken, setIn, joins, oddHead, isStray, odd}
-use Rattle.document.specs.ReadingMessages.{headsOf, read-some}
-use Rattle.table.specs.Ranges.{range-length}
+use Rattle.document.specs.ReadingMessages.{headsOf, read-some, headIn}
 use Rattle.table.specs.Slots.{every-slots}
-use Rattle.views.specs.Sounds.{Sound, sound-is}
-use Rattle.kept.specs.Kept.{bytes-sound}
+use Rattle.views.specs.Sounds.{Sound, sound-table}
 use Rattle.kept.specs.MessageFacts.{MessageSays, message-says}
 use Rattle.kept.specs.ReceiveAbove.{steady-B}
 use Rattle.judge.specs.Apart.{noneOdd, odd-apart}
@@ -106,16 +104,7 @@ odd-parts p t s m =
     ∙ ap (λ (b : Bool). b && firstAgrees t (p .first)) (every-above t (p .above)))))
     ∙ not-both (every (headAgrees t) (headsOf p)) _
 
--- ---- in bytes: a table b
-
-pub sound-length : (b : List ℕ) → soundBytes b ≡ true → 13344 ≤ length b
-unfolding soundBytes
-sound-length b s = omega (arith, range-length b (and-true (tableInRange b) _ s .0))
-
 -- ---- in bytes: a message l with that many heads and entries
-
-abbrev pub headIn : List ℕ → ℕ → Head
-headIn l j = headAt l (headSpot j)
 
 abbrev pub headsAgree : Table → List ℕ → ℕ → Bool
 headsAgree t l heads = everySlot (λ (j : ℕ). headAgrees t (headIn l j)) 0 heads
@@ -187,12 +176,10 @@ odd-judged b l h f s r e g =
         && (aboveAgree t l (z .heads) && firstAgrees t y)))
 
     sound : Sound t
-    sound = sound-is t (bytes-sound b s .0)
+    sound = sound-table b s
 
     says : MessageSays (t .nodes) (messageOf l)
-    says =
-        let size = and-true (leb 1 (t .nodes)) _ (sound .size) in
-        message-says (t .nodes) l (messageOf l) (leb-true (t .nodes) 8 (size .1)) r
+    says = message-says (t .nodes) l (messageOf l) (size-most (t .nodes) (sound .size)) r
 
     one : suc (pushAt l 0 .heads - 1) ≡ pushAt l 0 .heads
     one = omega (arith, counts (t .nodes) l (messageOf l) r .some-heads)

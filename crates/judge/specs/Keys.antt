@@ -10,7 +10,7 @@ use Prim.Native.Nat.{ℕ}
 use native.Mathlib.Omega.{arith}
 use lib.Dec.{ltb}
 use borrow.Author.Tests.{eq-eqb, ltb-true, not-true}
-use Rattle.codec.specs.Lists.{every, and-true}
+use Rattle.codec.specs.Lists.{every, and-true, and-both}
 use Rattle.names.specs.declared.Name.{Name}
 use Rattle.names.specs.Names.{sameName, same-name-refl}
 use Rattle.records.specs.declared.head.Head.{Head}
@@ -18,7 +18,6 @@ use Rattle.records.specs.declared.entry.Entry.{Entry}
 use Rattle.slots.specs.declared.listed.Listed.{Listed}
 use Rattle.document.specs.Tables.{Table, headOf}
 use Rattle.document.specs.Sound.{distinct, sameKey}
-use Rattle.document.specs.Reading.{and-both}
 use Rattle.document.specs.Steps.{placeEntry, strike, samePlace, setBy}
 use Rattle.document.specs.Messages.{Push, sameChildName}
 use Rattle.document.specs.Receive.{listedIn, joinedIn, setIfMade, setAbove, setIfTaken, setIn, joins}

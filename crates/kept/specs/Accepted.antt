@@ -6,14 +6,15 @@ use mathlib.Core.List.{List, [], _∷_}
 use Prim.Native.Nat.{ℕ}
 use Rattle.records.specs.declared.head.Head.{Head}
 use Rattle.document.specs.Tables.{Table}
-use Rattle.document.specs.Outcomes.{Outcome, refused, done, Refusal, judged}
+use Rattle.document.specs.Outcomes.{Outcome, refused, done, Refusal, judged, all-passed}
 use Rattle.document.specs.Calls.{notHeld}
 
 abbrev isDone : Outcome → Bool
 isDone (refused k) = false
 isDone (done v t w) = true
 
-abbrev tableIn : Table → Outcome → Table
+-- the table that a call leaves, t if it is refused
+abbrev pub tableIn : Table → Outcome → Table
 tableIn t (refused k) = t
 tableIn t (done v u w) = u
 
@@ -34,10 +35,6 @@ accepted r rs o v u w e = go (r .holds) refl e
         (r .holds ≡ false) × (judged rs o ≡ done v u w)
     go true h q = absurd (not-done (r .number) v u w q)
     go false h q = (h, q)
-
-pub all-passed : (o : Outcome) → judged [] o ≡ o
-unfolding judged
-all-passed o = refl
 
 -- so what is done is what was to be
 pub judged-done : (rs : List Refusal) (o : Outcome) (v : ℕ) (u : Table) (w : List ℕ) → judged rs o ≡ done v u w →

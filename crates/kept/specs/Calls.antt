@@ -17,7 +17,7 @@ use Rattle.slots.specs.declared.replica.Replica.{Replica}
 use Rattle.document.specs.Tables.{Table, withNext, find, headOf}
 use Rattle.document.specs.Sound.{isLive, isDirectory, isRootId, heldAnd, sound}
 use Rattle.document.specs.Steps.{stampAt, issue, settle, withState, withPlace, isDead, tooMany, pastEnd}
-use Rattle.document.specs.Outcomes.{done}
+use Rattle.document.specs.Outcomes.{done, all-passed}
 use Rattle.document.specs.Calls.{isNow, changedBy, liveChild, newHead, created, createIn, killed, unlinkIn, renamed, renameIn, removeIn, notHeld, notDirectory, anyShown, deepest, placeNotHeld}
 use Rattle.views.specs.Lists.{In, no-both, or-false-both, some-only, same?}
 use Rattle.views.specs.Puts.{head-found, head-id, head-own, find-in, dead-not}
@@ -27,7 +27,7 @@ use Rattle.views.specs.Sounds.{Sound, sound-is, is-sound, root-only, root-held,
 use Rattle.kept.specs.Rules.{UnderLive, OverDead}
 use Rattle.kept.specs.Firm.{base-of, firm-of, firm-next, firm-issue, NewState, carried-issue, carried-trans, carried-same}
 use Rattle.kept.specs.Settled.{within, sound-settle}
-use Rattle.kept.specs.Accepted.{accepted, all-passed, done-table, held-some}
+use Rattle.kept.specs.Accepted.{accepted, done-table, held-some}
 use Rattle.kept.specs.States.{same-place-state, new-place-state, made-state, dead-under, live-over, under-live}
 
 -- ---- a new state, settled

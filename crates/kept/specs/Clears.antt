@@ -13,7 +13,7 @@ use Rattle.records.specs.declared.head.Head.{Head}
 use Rattle.slots.specs.declared.replica.Replica.{Replica}
 use Rattle.document.specs.Tables.{Table, withReplicas, find, headOf?, headOf}
 use Rattle.document.specs.Sound.{distinct, sameId, rootIn, isPartOf, sound}
-use Rattle.document.specs.Outcomes.{done}
+use Rattle.document.specs.Outcomes.{done, all-passed}
 use Rattle.document.specs.Calls.{clear, clearIn}
 use Rattle.views.specs.Lists.{some-only, not-none}
 use Rattle.views.specs.Maps.{onFound, find-map, head-map, map-distinct, map-length, map-root}
@@ -21,7 +21,7 @@ use Rattle.views.specs.Sets.{is-set-without, part-without}
 use Rattle.views.specs.Sounds.{Sound, sound-is, is-sound}
 use Rattle.kept.specs.Firm.{firm-of}
 use Rattle.kept.specs.Settled.{sound-replicas, holders-fit}
-use Rattle.kept.specs.Accepted.{accepted, all-passed, done-table}
+use Rattle.kept.specs.Accepted.{accepted, done-table}
 
 -- what becomes of a replica
 abbrev pub cleared : ℕ → ℕ → Replica → Replica

@@ -2,34 +2,26 @@
 -- range that an end bounds is kept for a clock before its end. A new state keeps such a table such, and so does a head
 -- put with more holders. Assumes nothing.
 use mathlib.Core.Path.{_≡_, refl, ap, sym, subst, _∙_}
-use mathlib.Core.Logic.{_⊎_, inl, inr}
 use mathlib.Core.Bool.{true}
 use mathlib.Core.Option.{some}
 use Prim.Native.Nat.{ℕ, _^_, _≤_, _<_}
 use native.Mathlib.Omega.{arith}
-use lib.Dec.{leb}
-use borrow.Author.Tests.{leb-true}
-use Rattle.codec.specs.Lists.{and-true}
 use Rattle.numbers.specs.Nodes.{isSize, isNode, has}
 use Rattle.numbers.specs.Ids.{maker, count, clockOf}
+use Rattle.numbers.specs.Laws.{node-small}
 use Rattle.records.specs.declared.head.Head.{Head}
 use Rattle.records.specs.Heads.{headFits, isRoot}
+use Rattle.records.specs.Ordinary.{ordinary-is}
 use Rattle.slots.specs.declared.listed.Listed.{Listed}
 use Rattle.document.specs.Tables.{Table, withHighest, withNext, find, headOf, listedFits}
 use Rattle.document.specs.Sound.{isLive, rootFirst, idsUnique, makerHolds, keysUnique}
 use Rattle.document.specs.Steps.{clockAt, stampAt, joined, put, issue}
-use Rattle.views.specs.Lists.{same?}
 use Rattle.views.specs.Puts.{versionOf, pendingOf, version-put, pending-put, put-distinct, head-id}
 use Rattle.views.specs.Joins.{join-distinct}
 use Rattle.views.specs.Issues.{made, clock-above, stamp-clock, issue-own, issue-nodes, issue-next, issue-highest, issue-ids, issue-keys, issue-version, issue-pending}
-use Rattle.views.specs.Sounds.{Place, Entered, Parent, Heads, HeadsFit, EntriesFit, MakersHold, OwnHolds, OwnBelowNext, Placed, LivePlaces, Shown, HeadClocks, Parents, NoRootChild, EntryClocks, Sound, root-only}
-use Rattle.kept.specs.Ranges.{ordinary-is}
+use Rattle.views.specs.Sounds.{Place, Entered, Parent, HeadsFit, EntriesFit, MakersHold, OwnHolds, OwnBelowNext, Placed, LivePlaces, Shown, HeadClocks, Parents, NoRootChild, EntryClocks, Sound, DepthsFit, depths-of}
 use Rattle.kept.specs.Rules.{StaysDirectory, UnderLive, OverDead, put-heads, put-placed, put-parents, put-live-places, put-root, join-listed, join-parents, place-same, parent-same, entered-same}
 use Rattle.kept.specs.Issued.{issue-heads, issue-heads-fit, issue-makers, issue-own-holds, issue-own-below, issue-head-clocks, issue-placed, issue-live-places, issue-root, issue-no-root-child, issue-entry-clocks, issue-parents, issue-entries-fit, issue-shown}
-
--- "1 to 16; the root's is 0"
-abbrev pub DepthsFit : Table → Type 0
-DepthsFit t = Heads t (λ h. h .depth ≤ 16)
 
 -- but for two rules that a message may break until its entries are set and its directories made live
 pub record Base (t : Table) : Type 0 where
@@ -57,20 +49,6 @@ pub record Firm (t : Table) : Type 0 where
   pub shown : Shown t
 
 -- ---- what a sound table has
-
--- a node is a small number
-pub node-small : (n i : ℕ) → isSize n ≡ true → isNode n i ≡ true → (1 ≤ i) × (i ≤ 8)
-node-small n i p q =
-    let a = and-true (leb 1 n) _ p in
-    let b = and-true (leb 1 i) _ q in
-    (leb-true _ _ (b .0), omega (arith, leb-true n 8 (a .1), leb-true i n (b .1)))
-
-pub depths-of : (t : Table) → rootFirst t ≡ true → HeadsFit t → DepthsFit t
-depths-of t r q f h e = go (same? (h .id) 0)
-  where
-    go : (h .id ≡ 0) ⊎ (h .id ≡ 0 → ⊥) → h .depth ≤ 16
-    go (inl z) = subst (λ (y : Head). y .depth ≤ 16) (sym (root-only t r f h e z)) (omega arith)
-    go (inr z) = leb-true _ _ (and-true (leb 1 (h .depth)) _ (ordinary-is (t .nodes) h z (q f h e) .depth) .1)
 
 pub base-of : (t : Table) → Sound t → Base t
 base-of t s =

@@ -11,6 +11,7 @@ use Rattle.numbers.specs.Nodes.{has}
 use Rattle.numbers.specs.Ids.{maker, count, clockOf}
 use Rattle.records.specs.declared.head.Head.{Head}
 use Rattle.records.specs.Heads.{headFits}
+use Rattle.records.specs.Ordinary.{Ordinary}
 use Rattle.slots.specs.declared.replica.Replica.{Replica}
 use Rattle.slots.specs.declared.listed.Listed.{Listed}
 use Rattle.document.specs.Tables.{Table, withHighest, find, headOf?, headOf, listedFits}
@@ -20,7 +21,7 @@ use Rattle.views.specs.Lists.{In}
 use Rattle.views.specs.Joins.{join-all-after, entry-in}
 use Rattle.views.specs.Issues.{made, set-cases, set-child, set-stamp, stamp-above, clock-above, issue-own, issue-nodes, issue-next, issue-highest, issue-replicas, issue-cases, issue-in, issue-after}
 use Rattle.views.specs.Sounds.{Place, Entered, Parent, Heads, Entries, HeadsFit, EntriesFit, MakersHold, OwnHolds, OwnBelowNext, Placed, LivePlaces, Shown, HeadClocks, Parents, NoRootChild, EntryClocks}
-use Rattle.kept.specs.Ranges.{Ordinary, place-fits, strike-fits}
+use Rattle.kept.specs.Ranges.{place-fits, strike-fits}
 use Rattle.kept.specs.Rules.{StaysDirectory, UnderLive, OverDead, put-placed, put-live-places, put-root, parent-put, place-same, parent-same, entered-after, entered-new, NotAtOdds}
 
 -- the entries that a state sets begin with that of its place

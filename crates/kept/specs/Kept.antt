@@ -5,18 +5,18 @@ use mathlib.Core.Bool.{Bool, true, false, cond}
 use mathlib.Core.Option.{Option, some, none}
 use mathlib.Core.List.{List, []}
 use Prim.Native.Nat.{ℕ, _+_}
-use Rattle.codec.specs.Lists.{and-true}
+use Rattle.codec.specs.Lists.{and-true, and-both}
 use Rattle.names.specs.Names.{nameFrom}
 use Rattle.numbers.specs.Nodes.{join}
 use Rattle.messages.specs.declared.acknowledgement.Acknowledgement.{Acknowledgement}
 use Rattle.records.specs.declared.head.Head.{Head}
-use Rattle.document.specs.Tables.{Table, withNext, headOf, fresh, tableOf, tableInRange, tableBytes, fits}
+use Rattle.document.specs.Tables.{Table, withNext, headOf, fresh, tableOf, tableBytes, fits}
 use Rattle.document.specs.Sound.{rules, sound, soundBytes, readSound}
 use Rattle.document.specs.Steps.{issue, withState, withPlace, withHolders}
 use Rattle.document.specs.Messages.{readAck}
 use Rattle.document.specs.Outcomes.{Outcome, refused, done, tableAfter}
 use Rattle.document.specs.Calls.{ifSound, onSound, changedBy, startRefusals, start, newHead, created, createRefusals, createIn, create, killed, unlinkRefusals, unlinkIn, unlink, renamed, renameRefusals, renameIn, rename, removeRefusals, removeIn, remove, spreadTo, spreadRefusals, spreadIn, spread, listRefusals, listIn, list, pushRefusals, pushIn, push, ifAck, clearRefusals, clearIn, acknowledged, pendingSum, pending}
-use Rattle.document.specs.Reading.{and-both, table-of-bytes, bytes-in-range, table-shaped, table-in-range}
+use Rattle.document.specs.Reading.{table-of-bytes, bytes-in-range, bytes-sound, sound-shaped}
 use Rattle.kept.specs.Accepted.{done-table, judged-done, not-done}
 use Rattle.kept.specs.Shapes.{Full, full-of, shaped-of, full-head, full-from, full-put, full-next, full-issue, full-settle, full-clear, full-fresh}
 use Rattle.kept.specs.Starts.{start-sound}
@@ -33,13 +33,6 @@ sound-bytes t s f =
     let p = and-true (fits t) _ s in
     let shape = shaped-of t f in
     and-both (bytes-in-range t shape (p .0)) (ap rules (table-of-bytes t shape (p .0)) ∙ p .1)
-
--- sound bytes are a sound table with full names
-pub bytes-sound : (l : List ℕ) → soundBytes l ≡ true → (sound (tableOf l) ≡ true) × Full (tableOf l)
-unfolding sound soundBytes
-bytes-sound l e =
-    let p = and-true (tableInRange l) _ e in
-    (and-both (table-in-range l (p .0)) (p .1), full-of (tableOf l) (table-shaped l (p .0)))
 
 -- what a call leaves: a sound table, and sound bytes
 pub record Left (u : Table) : Type 0 where
@@ -63,8 +56,7 @@ on-sound l f k v u w e = go (soundBytes l) refl e
   where
     go : (b : Bool) → soundBytes l ≡ b → ifSound (cond b (some (tableOf l)) none) f ≡ done v u w → Left u
     go true s q =
-        let p = bytes-sound l s in
-        let r = k (tableOf l) (p .0) (p .1) v u w q in
+        let r = k (tableOf l) (bytes-sound l s) (full-of (tableOf l) (sound-shaped l s)) v u w q in
         left u (r .0) (r .1)
     go false s q = absurd (not-done 1 v u w q)
 

@@ -22,4 +22,3 @@ pub mod Shapes
 pub mod Spreads
 pub mod Starts
 pub mod States
-pub mod Touched

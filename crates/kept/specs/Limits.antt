@@ -2,10 +2,11 @@
 use mathlib.Core.Path.{_≡_, refl, ap, sym, subst, _∙_}
 use mathlib.Core.Logic.{_⊎_, inl, inr}
 use mathlib.Core.Bool.{Bool, true, false, _||_, not}
-use mathlib.Core.Option.{some}
+use mathlib.Core.Option.{Option, some}
 use mathlib.Core.List.{List}
-use Prim.Native.Nat.{ℕ, _≤_}
+use Prim.Native.Nat.{ℕ, _+_, _≤_}
 use native.Mathlib.Omega.{arith}
+use native.Mathlib.Nat.{add-zero}
 use lib.Dec.{ltb}
 use lib.ListN.{length}
 use borrow.Author.Tests.{le-leb, le-ltb}
@@ -20,7 +21,7 @@ use Rattle.document.specs.Steps.{stampAt, joinInto, putHead, put, placeEntry, i
 use Rattle.document.specs.Calls.{killed, spreadTo}
 use Rattle.views.specs.Lists.{In, in-every}
 use Rattle.views.specs.Puts.{head-found, head-id, head-own, head-member, put-in, put-length-held}
-use Rattle.views.specs.Joins.{entry-found, join-length-held, join-count-held}
+use Rattle.views.specs.Joins.{entry-found, extra, join-size, oneMore, crowd-join}
 use Rattle.views.specs.Settles.{settled, settled-head, settle-in, settle-length}
 use Rattle.views.specs.Issues.{place-same, issue-replicas, issue-entries-stay}
 use Rattle.views.specs.Sounds.{Entered, Sound}
@@ -75,9 +76,10 @@ pub killed-room : (now : ℕ) (t : Table) (f : ℕ) (h : Head) → Sound t → h
 unfolding killed
 killed-room now t f h s e z l =
     no-new-slot t (issue now (withState h 0) t) dead h s here (issue-replicas now (withState h 0) t)
-    (ap length entries ∙ join-length-held (placeEntry dead) (t .entries) (x .0) (x .1))
-    (λ d. ap (λ (k : List Listed). length (entriesOf d k)) entries
-    ∙ join-count-held (placeEntry dead) (t .entries) (x .0) (x .1) d)
+    (ap length entries ∙ join-size (placeEntry dead) (t .entries)
+    ∙ ap (λ (o : Option Listed). length (t .entries) + extra o) (x .1) ∙ add-zero _)
+    (λ d. ap (λ (k : List Listed). length (entriesOf d k)) entries ∙ crowd-join (placeEntry dead) (t .entries) d
+    ∙ ap (λ (o : Option Listed). length (entriesOf d (t .entries)) + oneMore (placeEntry dead) o d) (x .1) ∙ add-zero _)
   where
     dead : Head
     dead = withState h 0 (stampAt now t)

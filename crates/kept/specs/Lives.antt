@@ -1,18 +1,15 @@
 -- Making a directory live keeps every rule but one: that a live replica's place is live is what it mends, and is not
 -- asked for. Assumes nothing.
-use mathlib.Core.Path.{_≡_, refl, ap, sym, _∙_}
-use mathlib.Core.Bool.{Bool, true, false, cond}
+use mathlib.Core.Path.{_≡_, refl, sym, _∙_}
 use mathlib.Core.Option.{Option, some, none}
-use Prim.Native.Nat.{ℕ, zero, suc, _≤_}
+use Prim.Native.Nat.{ℕ, _≤_}
 use native.Mathlib.Omega.{arith}
 use Rattle.records.specs.declared.head.Head.{Head}
 use Rattle.document.specs.Tables.{Table, headOf}
-use Rattle.document.specs.Sound.{rootFirst}
-use Rattle.document.specs.Steps.{withState, isDead, directoryOf, relive, makeLive}
-use Rattle.views.specs.Lists.{no-both}
+use Rattle.document.specs.Steps.{withState, relive}
 use Rattle.views.specs.Puts.{head-id}
 use Rattle.views.specs.Issues.{clock-above, issue-own, issue-nodes, issue-next, issue-highest}
-use Rattle.views.specs.Sounds.{Shown, root-held}
+use Rattle.views.specs.Sounds.{Shown}
 use Rattle.kept.specs.Issued.{issue-shown}
 use Rattle.kept.specs.Firm.{Base, base-issue, Carried, carried-same, carried-trans, carried-issue}
 use Rattle.kept.specs.States.{same-place-state}
@@ -68,26 +65,3 @@ mended-relive now d (some h) t e z b s =
       next = issue-next now f t;
       highest = omega (arith, clock-above now t, issue-highest now f t);
     }
-
--- what is dead is not the root
-pub dead-nonroot : (t : Table) (d : ℕ) → rootFirst t ≡ true → isDead (headOf t d) ≡ true → d ≡ 0 → ⊥
-dead-nonroot t d r e z =
-    no-both (isDead (headOf t d)) e (ap (λ (m : ℕ). isDead (headOf t m)) z ∙ ap isDead (root-held t r))
-
--- a directory and those above it
-pub mended-live : (k now d : ℕ) (t : Table) → (d ≡ 0 → ⊥) → Base t → Shown t → Mended t (makeLive k now d t)
-unfolding makeLive
-mended-live zero now d t z b s = mended-refl t b s
-mended-live (suc k) now d t z b s =
-    go (isDead (headOf t place)) refl (λ q. mended-live k now place t q b s)
-  where
-    place : ℕ
-    place = directoryOf (headOf t d)
-
-    last : (u : Table) → Mended t u → Mended t (relive now (headOf u d) u)
-    last u m = mended-trans t u _ m (mended-relive now d (headOf u d) u refl z (m .base) (m .shown))
-
-    go : (a : Bool) → isDead (headOf t place) ≡ a → ((place ≡ 0 → ⊥) → Mended t (makeLive k now place t)) →
-        Mended t (let u = cond a (makeLive k now place t) t in relive now (headOf u d) u)
-    go true e up = last (makeLive k now place t) (up (dead-nonroot t place (b .root-first) e))
-    go false e up = last t (mended-refl t b s)

@@ -10,13 +10,14 @@ use native.Mathlib.Omega.{arith}
 use lib.Dec.{eqb, ltb}
 use lib.ListN.{length}
 use borrow.Author.Tests.{eq-eqb, ne-eqb, eqb-true, eqb-false, ltb-true, not-true, not-false}
-use Rattle.codec.specs.Lists.{every, and-true}
+use Rattle.codec.specs.Lists.{every, and-true, implied}
 use Rattle.numbers.specs.Nodes.{has}
 use Rattle.numbers.specs.Ids.{maker}
 use Rattle.records.specs.declared.head.Head.{Head}
 use Rattle.records.specs.declared.entry.Entry.{Entry}
-use Rattle.records.specs.Heads.{headFits, rootHead, root-is}
+use Rattle.records.specs.Heads.{headFits, rootHead}
 use Rattle.records.specs.Entries.{entryFits}
+use Rattle.records.specs.Ordinary.{root-fits}
 use Rattle.messages.specs.PushHeaders.{pushFits}
 use Rattle.document.specs.Tables.{Table, headOf}
 use Rattle.document.specs.Sound.{isLive, isDirectory, isRootId, isHeld, makerHolds, distinct}
@@ -32,9 +33,6 @@ use Rattle.views.specs.Issues.{same-place}
 pub and-false : (a b : Bool) → (a && b) ≡ false → a ≡ true → b ≡ false
 and-false true b h e = h
 and-false false b h e = absurd (true≢false (sym e))
-
-pub implied : (a b : Bool) → (not a || b) ≡ true → a ≡ true → b ≡ true
-implied a b h e = or-second (not a) b h (ap not e)
 
 -- ---- line 4
 
@@ -114,11 +112,6 @@ chain-depths h (g ∷ gs) (d, e, k, l, u, r) x m =
     go : (x ≡ g) ⊎ In x gs → 1 ≤ g .depth → (In x gs → 1 ≤ x .depth) → 1 ≤ x .depth
     go (inl q) h ih = omega (arith, ap (λ (y : Head). y .depth) q)
     go (inr i) h ih = ih i
-
--- a head in range with the root's id is the root's
-pub root-fits : (n : ℕ) (h : Head) → headFits n h ≡ true → h .id ≡ 0 → h ≡ rootHead n
-unfolding headFits
-root-fits n h e z = root-is n h (rw (eq-eqb (h .id) 0 z) at e)
 
 no-heads : (l : List Head) → length l ≡ 0 → l ≡ []
 no-heads [] e = refl

@@ -14,6 +14,7 @@ use Rattle.numbers.specs.Ids.{maker, clockOf}
 use Rattle.records.specs.declared.head.Head.{Head}
 use Rattle.records.specs.declared.entry.Entry.{Entry}
 use Rattle.records.specs.Heads.{headFits, rootHead}
+use Rattle.records.specs.Ordinary.{ordinary-is}
 use Rattle.document.specs.Tables.{Table, headOf}
 use Rattle.document.specs.Sound.{makerHolds}
 use Rattle.document.specs.Steps.{put, withHolders}
@@ -24,7 +25,6 @@ use Rattle.views.specs.Puts.{put-cases, head-put-same, head-put-other}
 use Rattle.views.specs.Sounds.{Place, root-held}
 use Rattle.kept.specs.MessageFacts.{Chain, HeadAgrees}
 use Rattle.kept.specs.Firm.{Base, base-put, base-high}
-use Rattle.kept.specs.Ranges.{ordinary-is}
 use Rattle.kept.specs.States.{place-like}
 use Rattle.kept.specs.ReceiveRanges.{depth-most, maker-more, has-own, fits-own}
 

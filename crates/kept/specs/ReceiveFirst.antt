@@ -14,6 +14,7 @@ use Rattle.numbers.specs.Ids.{maker, count, clockOf}
 use Rattle.numbers.specs.Laws.{is-set-join}
 use Rattle.records.specs.declared.head.Head.{Head}
 use Rattle.records.specs.Heads.{headFits, isRoot, rootHead}
+use Rattle.records.specs.Ordinary.{Ordinary, ordinary-is, root-fits}
 use Rattle.document.specs.Tables.{Table, headOf}
 use Rattle.document.specs.Sound.{isDirectory}
 use Rattle.document.specs.Steps.{withHolders}
@@ -23,9 +24,8 @@ use Rattle.views.specs.Lists.{In, same?, some-only, not-none}
 use Rattle.views.specs.Puts.{head-id, head-own}
 use Rattle.views.specs.Sets.{has-join-left, part-refl}
 use Rattle.views.specs.Sounds.{Place, root-held}
-use Rattle.kept.specs.MessageFacts.{MessageSays, TableAgrees, root-fits}
+use Rattle.kept.specs.MessageFacts.{MessageSays, TableAgrees}
 use Rattle.kept.specs.Firm.{Base, NewHead, base-put}
-use Rattle.kept.specs.Ranges.{Ordinary, ordinary-is}
 use Rattle.kept.specs.Rules.{StaysDirectory}
 use Rattle.kept.specs.Starts.{root-self}
 use Rattle.kept.specs.States.{place-like}

@@ -10,16 +10,17 @@ use Prim.Native.Nat.{ℕ, _^_, _≤_, _<_}
 use native.Mathlib.Omega.{arith}
 use lib.Dec.{eqb, ltb}
 use borrow.Author.Tests.{eqb-false, ltb-true}
+use Rattle.codec.specs.Lists.{and-both}
 use Rattle.numbers.specs.Nodes.{join}
 use Rattle.numbers.specs.Ids.{isMade, isId, clockOf}
 use Rattle.records.specs.declared.head.Head.{Head}
 use Rattle.records.specs.declared.entry.Entry.{Entry}
 use Rattle.records.specs.Heads.{headFits}
+use Rattle.records.specs.Ordinary.{Ordinary, ordinary-is, root-fits}
 use Rattle.slots.specs.declared.replica.Replica.{Replica}
 use Rattle.slots.specs.declared.listed.Listed.{Listed}
 use Rattle.document.specs.Tables.{Table, find, headOf?, headOf, findEntry}
 use Rattle.document.specs.Sound.{isDirectory, isLive}
-use Rattle.document.specs.Reading.{and-both}
 use Rattle.document.specs.Steps.{put, placeEntry, strike, samePlace, setBy, joined, joinAll, withHolders}
 use Rattle.document.specs.Messages.{Push}
 use Rattle.document.specs.Receive.{stampsOf, stepA, stepC, taken, merged, listedIn, joinedIn, setAbove, setIfTaken, setIn, joins}
@@ -29,9 +30,9 @@ use Rattle.views.specs.Joins.{join-all-after, join-all-same}
 use Rattle.views.specs.Issues.{set-place, set-cases}
 use Rattle.views.specs.Takes.{merged-id}
 use Rattle.views.specs.Sounds.{Place, Parent, Entered, Shown, root-held, root-only}
-use Rattle.kept.specs.MessageFacts.{Chain, HeadAgrees, MessageSays, TableAgrees, root-fits}
+use Rattle.kept.specs.MessageFacts.{Chain, HeadAgrees, MessageSays, TableAgrees}
 use Rattle.kept.specs.Firm.{Base, NewEntry, base-join, place-parent}
-use Rattle.kept.specs.Ranges.{Ordinary, ordinary-is, place-fits, strike-fits}
+use Rattle.kept.specs.Ranges.{place-fits, strike-fits}
 use Rattle.kept.specs.Rules.{parent-same, place-put, entered-after}
 use Rattle.kept.specs.ReceiveRanges.{depth-most}
 use Rattle.kept.specs.ReceiveAbove.{highest-least, base-A, steady-B, seen-head, seen-entry, Made, above-cases, above-places}

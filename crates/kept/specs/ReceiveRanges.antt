@@ -10,12 +10,12 @@ use Rattle.numbers.specs.Ids.{maker}
 use Rattle.numbers.specs.Laws.{has-join, has-single, is-set-join}
 use Rattle.records.specs.declared.head.Head.{Head}
 use Rattle.records.specs.Heads.{headFits}
+use Rattle.records.specs.Ordinary.{Ordinary, ordinary-is, is-ordinary}
 use Rattle.document.specs.Tables.{Table}
 use Rattle.document.specs.Sound.{makerHolds, isRootId}
 use Rattle.document.specs.Steps.{withHolders}
 use Rattle.document.specs.Receive.{withOwn}
 use Rattle.views.specs.Sets.{has-join-left, is-set-single}
-use Rattle.kept.specs.Ranges.{Ordinary, ordinary-is, is-ordinary}
 
 -- "Depth .. 1 to 16"
 pub depth-most : (n : ℕ) (h : Head) → Ordinary n h → h .depth ≤ 16

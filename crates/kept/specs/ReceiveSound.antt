@@ -5,9 +5,7 @@ use mathlib.Core.Bool.{true, false}
 use mathlib.Core.Option.{Option, some, none}
 use mathlib.Core.List.{List, [], _∷_}
 use Prim.Native.Nat.{ℕ, _≤_}
-use lib.Dec.{leb}
-use borrow.Author.Tests.{leb-true}
-use Rattle.codec.specs.Lists.{and-true}
+use Rattle.numbers.specs.Laws.{size-most}
 use Rattle.records.specs.declared.head.Head.{Head}
 use Rattle.slots.specs.declared.replica.Replica.{Replica}
 use Rattle.messages.specs.Acknowledgements.{ackBytes}
@@ -16,11 +14,11 @@ use Rattle.document.specs.Sound.{sound}
 use Rattle.document.specs.Steps.{joinAll, makeLive, tooMany, pastEnd}
 use Rattle.document.specs.Messages.{Push, readPush}
 use Rattle.document.specs.Receive.{stepA, withOwn, makeMissing, stepB, merged, stepC, taken, joins, stepF, received, ackFor}
-use Rattle.document.specs.Outcomes.{done}
+use Rattle.document.specs.Outcomes.{done, all-passed}
 use Rattle.document.specs.Calls.{ifPush, takeRefusals, takeIn, receiveRefusals, receiveIn, receive}
 use Rattle.views.specs.Joins.{join-all-same}
 use Rattle.views.specs.Sounds.{Sound, LivePlaces, sound-is, is-sound}
-use Rattle.kept.specs.Accepted.{accepted, all-passed, judged-done, done-table, not-done}
+use Rattle.kept.specs.Accepted.{accepted, judged-done, done-table, not-done}
 use Rattle.kept.specs.Shapes.{Full}
 use Rattle.kept.specs.Kept.{Keeps, Left, on-sound}
 use Rattle.kept.specs.Firm.{Base, Firm, base-of, Carried, carried-same, carried-trans, carried-put}
@@ -107,10 +105,6 @@ module _ (now : ℕ) (p : Push) (t : Table) where
 
 -- ---- the call
 
--- "Node: 1 to N, N at most 8."
-nodes-most : (t : Table) → Sound t → t .nodes ≤ 8
-nodes-most t k = leb-true (t .nodes) 8 (and-true (leb 1 (t .nodes)) _ (k .size) .1)
-
 pub take-sound : (now : ℕ) (t : Table) (m : List ℕ) (p : Push) (v : ℕ) (u : Table) (w : List ℕ) → sound t ≡ true →
     readPush (t .nodes) m ≡ some p → takeIn now t p ≡ done v u w → sound u ≡ true
 unfolding takeIn
@@ -120,7 +114,7 @@ take-sound now t m p v u w ok read e =
     let odd = accepted _ _ _ v u w (to .1) in
     let few = accepted _ _ _ v u w (odd .1) in
     let ends = accepted _ _ _ v u w (few .1) in
-    let says = message-says (t .nodes) m p (nodes-most t k) read in
+    let says = message-says (t .nodes) m p (size-most (t .nodes) (k .size)) read in
     ap sound (done-table 16 v (received now p t) u (ackBytes (ackFor p)) w (sym (all-passed _) ∙ ends .1))
     ∙ is-sound (received now p t) (sound-received now p t k says (table-agrees p t (odd .0)) (few .0) (ends .0))
 
@@ -137,14 +131,10 @@ receive-keeps now m room t ok full v u w e =
     go none q r = absurd (not-done 4 v u w r)
     go (some p) q r =
         let z = done-table _ v (received now p t) u _ w (judged-done (takeRefusals now t p) _ v u w r) in
-        let names = message-full (t .nodes) m p (nodes-most t (sound-is t ok)) q in
+        let names = message-full (t .nodes) m p (size-most (t .nodes) (sound-is t ok .size)) q in
         (take-sound now t m p v u w ok q r, subst Full (sym z) (full-received now p t names full))
 
 -- whatever the table's bytes, the message and the room: what an accepted receive leaves is sound, and so are its bytes
 pub receive-left : (l : List ℕ) (now : ℕ) (m : List ℕ) (room v : ℕ) (u : Table) (w : List ℕ) →
     receive l now m room ≡ done v u w → Left u
 receive-left l now m room v u w = on-sound l (receiveIn now m room) (receive-keeps now m room) v u w
-
-pub receive-sound : (l : List ℕ) (now : ℕ) (m : List ℕ) (room v : ℕ) (u : Table) (w : List ℕ) →
-    receive l now m room ≡ done v u w → sound u ≡ true
-receive-sound l now m room v u w e = receive-left l now m room v u w e .table

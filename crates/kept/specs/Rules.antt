@@ -20,7 +20,7 @@ use Rattle.document.specs.Sound.{isLive, isDirectory, rootIn, rootFirst}
 use Rattle.document.specs.Steps.{joined, renewed, putHead, put, placeEntry, isDead}
 use Rattle.views.specs.Lists.{In, no-both, same?}
 use Rattle.views.specs.Puts.{put-cases, put-here, head-put-other}
-use Rattle.views.specs.Joins.{After, entry-found, find-join-same, joinOn, join-on-cases, join-after, join-in}
+use Rattle.views.specs.Joins.{After, entry-found, find-join-same, joinOn, join-on-cases, join-in}
 use Rattle.views.specs.Sounds.{Place, Entered, Parent, Heads, Entries, Placed, LivePlaces, Parents}
 
 -- ---- one table's heads or entries in another
@@ -201,10 +201,6 @@ entered-after t u h n after =
               stamp = omega (arith, same, n .stamp);
               live = λ s. absurd (omega (arith, same, n .stamp));
             }
-
-pub entered-join : (e : Listed) (t : Table) (h : Head) → Entered t h → Entered (joined e t) h
-entered-join e t h n =
-    entered-after t (joined e t) h n (λ z p. join-after e (t .entries) (h .directory) (h .id) (h .name) z p)
 
 -- an entry of the head's stamp that stands at its place is live
 abbrev pub NotAtOdds : Table → Head → Type 0

@@ -11,22 +11,21 @@ use lib.Dec.{leb, ltb}
 use lib.ListN.{length}
 use lib.Pow.{ones-lt}
 use borrow.Author.Tests.{leb-true, leb-false, ltb-true, ltb-false, le-leb, lt-ltb, not-false}
-use Rattle.codec.specs.Lists.{every}
+use Rattle.codec.specs.Lists.{every, and-both}
 use Rattle.numbers.specs.Nodes.{isSet, without}
 use Rattle.numbers.specs.Ids.{isVersion}
 use Rattle.records.specs.declared.head.Head.{Head}
+use Rattle.records.specs.Ordinary.{ordinary-is}
 use Rattle.slots.specs.declared.replica.Replica.{Replica}
 use Rattle.slots.specs.Replicas.{replica-ext}
 use Rattle.document.specs.Tables.{Table, withReplicas, find, headOf?, headOf, entriesOf}
 use Rattle.document.specs.Sound.{distinct, sameId, isPartOf, rootIn, rootFirst, notCrowded}
 use Rattle.document.specs.Steps.{unchanged, raised, settleAll, settle, isDead, tooMany, pastEnd}
-use Rattle.document.specs.Reading.{and-both}
 use Rattle.views.specs.Lists.{In, or-false-both, some-only, not-none, same?, every-in}
 use Rattle.views.specs.Puts.{versionOf, pendingOf, find-id, find-in, head-found}
 use Rattle.views.specs.Sets.{part-refl, is-set-without}
 use Rattle.views.specs.Settles.{unchanged-head, unchanged-entries, settled, settledIn, settled-kept, settled-raised, find-settle, head-settle-all, settle-distinct, settle-root}
 use Rattle.views.specs.Sounds.{Heads, HeadsFit, VersionsFit, PendingsFit, PendingsWithin, NotCrowded, Sound, root-only}
-use Rattle.kept.specs.Ranges.{ordinary-is}
 use Rattle.kept.specs.Rules.{place-same, parent-same, entered-same}
 use Rattle.kept.specs.Firm.{Firm, Carried}
 

@@ -5,13 +5,14 @@ use mathlib.Core.Logic.{_⊎_, inl, inr}
 use mathlib.Core.Bool.{Bool, true, false, cond}
 use mathlib.Core.Option.{Option, some}
 use mathlib.Core.List.{List, _++_}
-use Prim.Native.Nat.{ℕ, zero, suc, _+_, _-_}
+use Prim.Native.Nat.{ℕ, _+_, _-_}
 use native.Mathlib.Omega.{arith}
 use lib.Dec.{leb}
 use lib.ListN.{length, length-append}
 use borrow.Author.Tests.{leb-true, eq-eqb}
 use Rattle.codec.specs.Bytes.{zeros}
 use Rattle.codec.specs.Lists.{every}
+use Rattle.codec.specs.Laws.{length-zeros}
 use Rattle.names.specs.Names.{noName, nameFrom}
 use Rattle.records.specs.declared.head.Head.{Head}
 use Rattle.slots.specs.declared.replica.Replica.{Replica}
@@ -54,13 +55,6 @@ full-head t s f h e =
     ap (λ (y : Head). isFull (y .name)) (sym (r .2)) ∙ s .replicas (r .0) (find-in f (t .replicas) (r .0) (r .1))
 
 -- ---- names
-
-length-zeros : (n : ℕ) → length (zeros n) ≡ n
-length-zeros zero = refl
-length-zeros (suc n) = ap suc (length-zeros n)
-
-pub full-none : isFull noName ≡ true
-full-none = refl
 
 pub full-from : (s : List ℕ) → isFull (nameFrom s) ≡ true
 unfolding nameFrom

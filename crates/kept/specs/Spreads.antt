@@ -12,22 +12,22 @@ use Rattle.numbers.specs.Ids.{maker}
 use Rattle.numbers.specs.Laws.{is-set-join}
 use Rattle.records.specs.declared.head.Head.{Head}
 use Rattle.records.specs.Heads.{isRoot, rootHead, headFits}
+use Rattle.records.specs.Ordinary.{ordinary-is, is-ordinary, is-root-fit}
 use Rattle.document.specs.Tables.{Table, headOf}
 use Rattle.document.specs.Sound.{isLive, isRootId, makerHolds, sound}
 use Rattle.document.specs.Steps.{put, withHolders, isDead, tooMany, pastEnd}
-use Rattle.document.specs.Outcomes.{done}
+use Rattle.document.specs.Outcomes.{done, all-passed}
 use Rattle.document.specs.Calls.{changedBy, spreadTo, spreadIn}
 use Rattle.views.specs.Lists.{no-both, some-only, same?}
 use Rattle.views.specs.Puts.{head-own, dead-not}
 use Rattle.views.specs.Sets.{has-join-left, join-all-nodes}
-use Rattle.views.specs.Sounds.{Entered, Sound, sound-is, is-sound, root-only}
-use Rattle.kept.specs.Ranges.{ordinary-is, is-ordinary, is-root-fit}
+use Rattle.views.specs.Sounds.{Entered, Sound, sound-is, is-sound, root-only, depths-of}
 use Rattle.kept.specs.Rules.{OverDead}
-use Rattle.kept.specs.Firm.{NewHead, firm-of, firm-put, depths-of, carried-put}
+use Rattle.kept.specs.Firm.{NewHead, firm-of, firm-put, carried-put}
 use Rattle.kept.specs.Settled.{sound-settle}
 use Rattle.kept.specs.States.{place-like}
 use Rattle.kept.specs.Starts.{root-self}
-use Rattle.kept.specs.Accepted.{accepted, all-passed, done-table, held-some}
+use Rattle.kept.specs.Accepted.{accepted, done-table, held-some}
 
 -- the maker stays among more holders
 makers-more : (h : Head) (set : ℕ) → makerHolds h ≡ true → makerHolds (withHolders h (join (h .holders) set)) ≡ true

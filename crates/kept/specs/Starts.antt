@@ -19,12 +19,12 @@ use Rattle.records.specs.Heads.{isRoot, rootHead, headFits}
 use Rattle.slots.specs.declared.replica.Replica.{Replica}
 use Rattle.document.specs.Tables.{Table, first, find, headOf, entriesOf, fresh}
 use Rattle.document.specs.Sound.{distinct, makerHolds, isPartOf, sound}
-use Rattle.document.specs.Outcomes.{done}
+use Rattle.document.specs.Outcomes.{done, all-passed}
 use Rattle.document.specs.Calls.{start}
 use Rattle.views.specs.Lists.{some-only, not-none}
 use Rattle.views.specs.Puts.{head-found}
 use Rattle.views.specs.Sounds.{Sound, is-sound}
-use Rattle.kept.specs.Accepted.{accepted, all-passed, done-table}
+use Rattle.kept.specs.Accepted.{accepted, done-table}
 
 -- the root's head is the root's
 pub root-self : (n : ℕ) → isRoot n (rootHead n) ≡ true

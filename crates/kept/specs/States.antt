@@ -8,27 +8,26 @@ use Prim.Native.Nat.{ℕ, _+_, _^_, _≤_, _<_}
 use native.Mathlib.Omega.{arith}
 use lib.Dec.{eqb, leb, ltb}
 use borrow.Author.Tests.{eq-eqb, leb-true, le-leb, lt-ltb, ltb-true, ltb-false}
-use Rattle.codec.specs.Lists.{and-true}
+use Rattle.codec.specs.Lists.{and-true, and-both}
 use Rattle.names.specs.declared.Name.{Name}
 use Rattle.names.specs.Names.{isName}
 use Rattle.numbers.specs.Nodes.{isWithin, isSize, isNode, isSet, has, join, single}
 use Rattle.numbers.specs.Ids.{idOf, maker, count, clockOf, issuer, isMade, isId, isStamp}
-use Rattle.numbers.specs.Laws.{has-join, has-single, is-set-join, maker-of, count-of, clock-of, issuer-of}
+use Rattle.numbers.specs.Laws.{has-join, has-single, is-set-join, maker-of, count-of, clock-of, issuer-of, node-small, made-id}
 use Rattle.records.specs.declared.head.Head.{Head}
 use Rattle.records.specs.Heads.{headFits}
+use Rattle.records.specs.Ordinary.{ordinary-is, is-ordinary}
 use Rattle.document.specs.Tables.{Table, withNext, headOf}
 use Rattle.document.specs.Sound.{isLive, isDirectory}
 use Rattle.document.specs.Steps.{clockAt, stampAt, withState, withPlace}
 use Rattle.document.specs.Calls.{newHead}
-use Rattle.document.specs.Reading.{and-both}
 use Rattle.views.specs.Lists.{no-both, some-only, not-none, same?}
 use Rattle.views.specs.Puts.{head-id, head-own, dead-not}
 use Rattle.views.specs.Sets.{is-set-single}
 use Rattle.views.specs.Issues.{made, clock-above}
 use Rattle.views.specs.Sounds.{Place, HeadsFit, OwnBelowNext, Sound, root-only}
-use Rattle.kept.specs.Ranges.{ordinary-is, is-ordinary, made-id}
 use Rattle.kept.specs.Rules.{UnderLive, OverDead}
-use Rattle.kept.specs.Firm.{Base, NewState, node-small}
+use Rattle.kept.specs.Firm.{Base, NewState}
 
 -- ---- the new stamp is in its range
 

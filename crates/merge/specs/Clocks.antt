@@ -12,12 +12,13 @@ use Rattle.slots.specs.TableHeaders.{tableHeaderBytes}
 use Rattle.document.specs.Tables.{Table, slotsFrom, headerOf, tableOf, withHighest}
 use Rattle.document.specs.Messages.{messageOf}
 use Rattle.document.specs.Receive.{highest, stampsOf, stepA}
+use Rattle.document.specs.ReadingMessages.{headIn}
 use Rattle.steps.specs.Standing.{Is, Stands, stands, moved, wide-of}
-use Rattle.steps.specs.States.{header-written}
+use Rattle.steps.specs.States.{header-written, Housed}
 use Rattle.steps.specs.Room.{Room}
-use Rattle.merge.specs.Working.{Works, Housed, room-high}
+use Rattle.merge.specs.Working.{Works, room-high}
 use Rattle.merge.specs.Turns.{slots-next, slots-end, slots-map}
-use Rattle.merge.specs.Message.{headIn, headsIn, entryIn, entriesIn}
+use Rattle.merge.specs.Message.{headsIn, entryIn, entriesIn}
 
 abbrev pub headStamp : List ℕ → ℕ → ℕ
 headStamp l i = headIn l i .stamp

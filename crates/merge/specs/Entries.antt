@@ -14,15 +14,16 @@ use Rattle.document.specs.Tables.{Table, find, slotsFrom, headOf, tableOf}
 use Rattle.document.specs.Steps.{joined, joinAll, placeEntry, strike, samePlace, setBy, tooMany}
 use Rattle.document.specs.Messages.{messageOf}
 use Rattle.document.specs.Receive.{joinedIn, setIfMade, setAbove, setIfTaken, setIn}
+use Rattle.document.specs.ReadingMessages.{headIn}
 use Rattle.views.specs.Lists.{In}
 use Rattle.views.specs.Joins.{join-all-same}
 use Rattle.views.specs.Issues.{same-place, set-place, set-strike}
 use Rattle.steps.specs.Standing.{Is}
 use Rattle.steps.specs.Joining.{hasRoom}
-use Rattle.steps.specs.States.{Held, Made, Places, many-all}
-use Rattle.merge.specs.Working.{Works, Housed, AllHeld, made-works, made-none, made-full, made-is, past, join-made, housed-all, all-append}
+use Rattle.steps.specs.States.{Held, Made, Places, many-all, Housed, made-past}
+use Rattle.merge.specs.Working.{Works, AllHeld, made-works, made-none, made-full, made-is, join-made, housed-all, all-append}
 use Rattle.merge.specs.Turns.{down, downTo, Down, down-start, down-turn, down-full, down-end, Joining}
-use Rattle.merge.specs.Message.{headsIn, headIn, entriesIn, listedAt, joined-are, above-are, first-is}
+use Rattle.merge.specs.Message.{headsIn, entriesIn, listedAt, joined-are, above-are, first-is}
 
 -- ---- joins one after the other
 
@@ -35,7 +36,7 @@ module _ (xs ys : List Listed) (l : List ℕ) {l' : List ℕ} where
   pub both-full : Made false l' (joinAll xs (tableOf l)) → {l2 : List ℕ} →
       Made false l2 (joinAll (xs ++ ys) (tableOf l))
   both-full m =
-      made-full (ap tooMany (all-append xs ys (tableOf l)) ∙ many-all ys (joinAll xs (tableOf l)) (past m refl))
+      made-full (ap tooMany (all-append xs ys (tableOf l)) ∙ many-all ys (joinAll xs (tableOf l)) (made-past m refl))
 
   module _ (m : Made true l' (joinAll xs (tableOf l))) where
     pub both-works : Works l → AllHeld (xs ++ ys) (tableOf l) → Works l'

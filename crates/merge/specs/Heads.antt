@@ -11,12 +11,13 @@ use Rattle.document.specs.Tables.{Table, headOf, tableOf}
 use Rattle.document.specs.Steps.{put, withHolders, tooMany}
 use Rattle.document.specs.Messages.{Push, messageOf}
 use Rattle.document.specs.Receive.{stepA, withOwn, makeMissing, stepB, merged, stepC, taken}
+use Rattle.document.specs.ReadingMessages.{headIn}
 use Rattle.steps.specs.Standing.{Is}
 use Rattle.steps.specs.Putting.{hasSlot}
-use Rattle.steps.specs.States.{Made}
-use Rattle.merge.specs.Working.{Works, Housed, made-works, made-none, made-full, made-as, made-is, past, put-made, housed-put, many-more}
+use Rattle.steps.specs.States.{Made, Housed, made-past}
+use Rattle.merge.specs.Working.{Works, made-works, made-none, made-full, made-as, made-is, put-made, housed-put, many-more}
 use Rattle.merge.specs.Turns.{down, downTo, Down, down-start, down-turn, down-full, down-end}
-use Rattle.merge.specs.Message.{headsIn, headIn, above-are}
+use Rattle.merge.specs.Message.{headsIn, above-are}
 use Rattle.merge.specs.Keeping.{past-first}
 
 -- ---- (b)
@@ -137,7 +138,7 @@ module _ (m : List ℕ) {l : List ℕ} (w : Works l) (o : tableOf l .own ≤ 8) 
 
     pub above-full : r ≡ false → {l3 : List ℕ} → Made false l3 (taken (messageOf m) (tableOf l))
     unfolding taken
-    above-full e = made-full (past-first (p .first) (stepB (p .above) withClocks) (past after e))
+    above-full e = made-full (past-first (p .first) (stepB (p .above) withClocks) (made-past after e))
 
     module _ (e : r ≡ true) where
       there : Made true l2 (stepB (messageOf m .above) withClocks)

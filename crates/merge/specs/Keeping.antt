@@ -13,6 +13,7 @@ use Rattle.document.specs.Sound.{isLive}
 use Rattle.document.specs.Steps.{put, joined, joinAll, setBy, stampAt, clockAt, issue, withState, isDead, directoryOf, relive, makeLive, settle, tooMany}
 use Rattle.document.specs.Messages.{Push}
 use Rattle.document.specs.Receive.{stepA, withOwn, makeMissing, stepB, merged, stepC, taken, joins, mend, stepF, received}
+use Rattle.views.specs.Joins.{join-all}
 use Rattle.steps.specs.Room.{many-joined, many-settle}
 use Rattle.steps.specs.Grown.{Grown, grown-refl, grown-put, grown-joined}
 use Rattle.merge.specs.Working.{many-more}
@@ -33,9 +34,7 @@ module _ (P : Table → Type 0) (raises : (t : Table) (c : ℕ) → P t → P (w
     (puts : (h : Head) (t : Table) → P t → P (put h t))
     (adds : (x : Listed) (t : Table) → P t → P (joined x t)) where
   keeps-joins : (es : List Listed) (t : Table) → P t → P (joinAll es t)
-  unfolding joinAll
-  keeps-joins [] t k = k
-  keeps-joins (e ∷ es) t k = keeps-joins es (joined e t) (adds e t k)
+  keeps-joins es t k = join-all P es (λ e m. adds e) t k
 
   keeps-issue : (now : ℕ) (f : ℕ → Head) (t : Table) → P t → P (issue now f t)
   unfolding issue

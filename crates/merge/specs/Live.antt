@@ -8,37 +8,32 @@ use Prim.Native.Nat.{ℕ, zero, suc, _+_, _-_, _*_, _^_, _≤_, _<_, max}
 use native.Mathlib.Omega.{arith}
 use Rattle.records.specs.declared.head.Head.{Head}
 use Rattle.slots.specs.declared.replica.Replica.{Replica}
-use Rattle.document.specs.Tables.{Table, find, headOf, slotsFrom, tableOf, replicaIn, replicasUsed, withHighest}
+use Rattle.document.specs.Tables.{Table, headOf, slotsFrom, tableOf, replicaIn, replicasUsed, withHighest}
 use Rattle.document.specs.Sound.{isLive}
 use Rattle.document.specs.Steps.{stampAt, clockAt, withState, isDead, directoryOf, relive, makeLive, tooMany}
 use Rattle.document.specs.Receive.{mend, stepF}
+use Rattle.document.specs.Reading.{few-replicas}
 use Rattle.views.specs.Lists.{no-both}
-use Rattle.views.specs.Puts.{head-found, head-id}
+use Rattle.views.specs.Puts.{head-id}
 use Rattle.views.specs.Issues.{issue-highest}
 use Rattle.views.specs.Sounds.{Place, Shown, root-held, root-only}
 use Rattle.kept.specs.Firm.{Base}
 use Rattle.kept.specs.ReceiveLive.{Lit, nonroot-dead, lit-live, live-16, mends}
-use Rattle.steps.specs.Standing.{Is, stands, few-replicas}
+use Rattle.steps.specs.Standing.{Is, stands}
 use Rattle.steps.specs.Room.{Room, crowd}
 use Rattle.steps.specs.Grown.{Grown, grown-refl, grows-slots}
-use Rattle.steps.specs.States.{Held, Made, Ready, stated, issue-stated}
-use Rattle.merge.specs.Working.{Works, Housed, made-works, made-none, made-all, made-full, made-is, past, room-high, crowd-most}
+use Rattle.steps.specs.States.{Held, Made, Ready, stated, issue-stated, Housed, crowd-most, made-past, held-head}
+use Rattle.merge.specs.Working.{Works, made-works, made-none, made-all, made-full, made-is, room-high}
 use Rattle.merge.specs.Turns.{slots-next, slots-end}
 use Rattle.merge.specs.Keeping.{past-relive, past-mends, grown-mend}
 
 -- each entry's directory is held, where the table is sound but for what the end of a call sees to
 pub base-housed : (t : Table) → Base t → Housed t
-base-housed t b x i =
-    let p = b .parents x i in
-    let r = head-found (find (x .directory) (t .replicas)) (p .head) (p .held) in
-    (r .0, r .1)
+base-housed t b x i = let p = b .parents x i in held-head t (x .directory) (p .head) (p .held)
 
 -- the place of what is not the root is held
 place-held : (t : Table) → Base t → (d : ℕ) (h : Head) → headOf t d ≡ some h → (h .id ≡ 0 → ⊥) → Held t (h .directory)
-place-held t b d h e z =
-    let p = b .placed d h e z in
-    let r = head-found (find (h .directory) (t .replicas)) (p .parent) (p .held) in
-    (r .0, r .1)
+place-held t b d h e z = let p = b .placed d h e z in held-head t (h .directory) (p .parent) (p .held)
 
 -- ---- a new stamp at the last place
 
@@ -216,7 +211,7 @@ module _ (d k now : ℕ) {l : List ℕ} (a : Lights l d k now) where
 
       pub over-full : {l' l2 : List ℕ} → Made false l' (makeLive (k - 1) now place (tableOf l)) →
           Made false l2 (liveOver (k - 1) now d place (tableOf l))
-      over-full m = made-full (ap tooMany (sym over-is) ∙ past-relive now (headOf up d) up (past m refl))
+      over-full m = made-full (ap tooMany (sym over-is) ∙ past-relive now (headOf up d) up (made-past m refl))
 
       module _ {l' : List ℕ} (m : Made true l' (makeLive (k - 1) now place (tableOf l))) where
         lit : Lit (tableOf l) up place
@@ -389,7 +384,7 @@ module _ (now : ℕ) (l₀ : List ℕ) where
 
       pub mending-full : {l' l2 : List ℕ} → Made false l' (mend now (headOf (tableOf l) id) (tableOf l)) →
           Made false l2 mendedAll
-      mending-full m = made-full (ap tooMany (sym leads-on) ∙ past-mends now _ next (past (turn m) refl))
+      mending-full m = made-full (ap tooMany (sym leads-on) ∙ past-mends now _ next (made-past (turn m) refl))
 
       pub mending-turn : {l' : List ℕ} → Made true l' (mend now (headOf (tableOf l) id) (tableOf l)) →
           Mending (i + 1) l'

@@ -14,35 +14,34 @@ use Rattle.codec.specs.Bytes.{chunk, Bytes, markedAt, zeroAt}
 use Rattle.codec.specs.Lists.{and-true}
 use Rattle.numbers.specs.Nodes.{isNode, isWithin}
 use Rattle.numbers.specs.Ids.{clockOf, isStamp, isId, isVersion}
+use Rattle.numbers.specs.Laws.{node-small, size-most}
 use Rattle.records.specs.declared.head.Head.{Head}
 use Rattle.records.specs.declared.entry.Entry.{Entry}
 use Rattle.records.specs.Heads.{headFits}
 use Rattle.records.specs.Entries.{entryFits}
+use Rattle.records.specs.Ordinary.{ordinary-is, root-fits}
 use Rattle.messages.specs.PushHeaders.{pushMark, pushOf, pushFits, pushInRange}
-use Rattle.slots.specs.declared.replica.Replica.{Replica}
-use Rattle.document.specs.Tables.{Table, find, headOf?, tableOf}
+use Rattle.document.specs.Tables.{Table, find, tableOf}
 use Rattle.document.specs.Sound.{soundBytes}
 use Rattle.document.specs.Steps.{joinAll, tooMany}
 use Rattle.document.specs.Messages.{Push, entrySpot, messageOf, messageInRange, readPush}
 use Rattle.document.specs.Receive.{highest, stampsOf, stepA, taken, joins, stepC, stepF, odd}
 use Rattle.document.specs.ReadingMessages.{read-some}
+use Rattle.document.specs.Reading.{sound-length}
 use Rattle.views.specs.Lists.{In, same?}
-use Rattle.views.specs.Puts.{find-member, head-found}
+use Rattle.views.specs.Puts.{head-found}
 use Rattle.views.specs.Joins.{join-all-same}
-use Rattle.views.specs.Sounds.{Sound, Shown, sound-is}
-use Rattle.kept.specs.Kept.{bytes-sound}
-use Rattle.kept.specs.Firm.{Base, base-of, node-small}
-use Rattle.kept.specs.Ranges.{ordinary-is}
-use Rattle.kept.specs.MessageFacts.{MessageSays, TableAgrees, root-fits, message-says, table-agrees}
+use Rattle.views.specs.Sounds.{Sound, Shown, sound-table}
+use Rattle.kept.specs.Firm.{Base, base-of}
+use Rattle.kept.specs.MessageFacts.{MessageSays, TableAgrees, message-says, table-agrees}
 use Rattle.kept.specs.ReceiveAbove.{steady-B}
 use Rattle.kept.specs.ReceiveFirst.{after-C}
 use Rattle.kept.specs.ReceiveJoins.{fine-joins, after-E, shown-E}
-use Rattle.steps.specs.Standing.{Each, end, more, stands, sound-stands}
-use Rattle.steps.specs.Room.{Room, crowd}
+use Rattle.steps.specs.Standing.{stands, sound-stands}
+use Rattle.steps.specs.Room.{Room, sound-room}
 use Rattle.steps.specs.Grown.{Grown}
-use Rattle.steps.specs.Settling.{Settles}
-use Rattle.steps.specs.States.{Held, Made, many-all}
-use Rattle.merge.specs.Working.{Works, Housed, AllHeld, made-works, made-full, made-is, made-as, past}
+use Rattle.steps.specs.States.{Held, Made, many-all, Housed, made-past}
+use Rattle.merge.specs.Working.{Works, AllHeld, made-works, made-full, made-is, made-as}
 use Rattle.merge.specs.Message.{Sized, headsIn, entriesIn}
 use Rattle.merge.specs.Keeping.{stepped, past-mends, grown-stepped}
 use Rattle.merge.specs.Live.{base-housed}
@@ -55,22 +54,6 @@ pub record Merges (old l m : List ℕ) (now : ℕ) : Type 0 where
   pub push : readPush (tableOf old .nodes) m ≡ some (messageOf m)
   pub agrees : odd (messageOf m) (tableOf old) ≡ false
   pub early : now < 2 ^ 40
-
--- ---- a sound table
-
-each-in : {A : Type 0} (P : A → Type 0) (xs : List A) → ((x : A) → In x xs → P x) → Each P xs
-each-in P [] f = end
-each-in P (x ∷ xs) f = more {x = x} (f x (List·Memᴰ·head refl)) (each-in P xs (λ y i. f y (List·Memᴰ·tail i)))
-
-sound-room : (t : Table) → Sound t → Room t
-sound-room t s =
-    record {
-      few-replicas = s .few-replicas;
-      few-entries = s .few-entries;
-      crowds = each-in (λ (r : Replica). crowd t (r .head .id) ≤ 32) (t .replicas)
-          (λ r i. s .not-crowded (r .head .id) (r .head)
-          (ap headOf? (find-member (t .replicas) (s .ids-unique) r i)));
-    }
 
 -- ---- a message in range
 
@@ -149,7 +132,7 @@ module _ {old l m : List ℕ} {now : ℕ} (k : Merges old l m now) (bytes : Byte
   p = messageOf m
 
   whole : Sound t
-  whole = sound-is t (bytes-sound old (k .sound) .0)
+  whole = sound-table old (k .sound)
 
   base : Base t
   base = base-of t whole
@@ -158,7 +141,7 @@ module _ {old l m : List ℕ} {now : ℕ} (k : Merges old l m now) (bytes : Byte
   own-node = node-small (t .nodes) (t .own) (whole .size) (whole .node)
 
   few : t .nodes ≤ 8
-  few = leb-true (t .nodes) 8 (and-true (leb 1 (t .nodes)) _ (whole .size) .1)
+  few = size-most (t .nodes) (whole .size)
 
   says : MessageSays (t .nodes) p
   says = message-says (t .nodes) m p few (k .push)
@@ -185,7 +168,7 @@ module _ {old l m : List ℕ} {now : ℕ} (k : Merges old l m now) (bytes : Byte
   merge-sized = sized (t .nodes) m (and-true (messageInRange (t .nodes) m) _ (read-some _ (k .push) .0) .0)
 
   pub merge-long : 13344 ≤ length old
-  merge-long = omega (arith, merge-works .stands .size, ap length (k .copy))
+  merge-long = sound-length old (k .sound)
 
   abbrev C : Table
   C = taken p t
@@ -206,7 +189,7 @@ module _ {old l m : List ℕ} {now : ℕ} (k : Merges old l m now) (bytes : Byte
     heads = made-is (ap (taken p) same) a
 
     pub heads-full : r ≡ false → {l' : List ℕ} → Made false l' (stepped now (messageOf m) (tableOf old))
-    heads-full e = made-full (past-E (many-all (joins p t) C (past heads e)))
+    heads-full e = made-full (past-E (many-all (joins p t) C (made-past heads e)))
 
     module _ (e : r ≡ true) where
       first : Made true l1 C
@@ -231,7 +214,7 @@ module _ {old l m : List ℕ} {now : ℕ} (k : Merges old l m now) (bytes : Byte
         entries = made-is (ap (joinAll (joins p t)) is-C) b
 
         pub entries-full : s ≡ false → {l' : List ℕ} → Made false l' (stepped now (messageOf m) (tableOf old))
-        entries-full f = made-full (past-E (past entries f))
+        entries-full f = made-full (past-E (made-past entries f))
 
         module _ (f : s ≡ true) where
           second : Made true l2 E
@@ -269,15 +252,3 @@ module _ {old l m : List ℕ} {now : ℕ} (k : Merges old l m now) (bytes : Byte
 
             pub merge-grown : z ≡ true → Grown (tableOf old) (tableOf l3)
             merge-grown g = subst (Grown t) (sym (merge-made .bytes g .table)) (grown-stepped now p t)
-
--- what is merged can be settled
-pub merge-settles : {old l m : List ℕ} {now : ℕ} → Merges old l m now → Bytes old → {u : Table} {l' : List ℕ} →
-    Made true l' u →
-    Grown (tableOf old) (tableOf l') → Settles old l'
-merge-settles {old} k b a g =
-    record {
-      before = sound-stands old (k .sound) b;
-      after = stands (a .bytes refl);
-      unique = sound-is (tableOf old) (bytes-sound old (k .sound) .0) .ids-unique;
-      grown = g;
-    }

@@ -4,15 +4,14 @@ use mathlib.Core.List.{List}
 use Prim.Native.Nat.{ℕ, _+_, _-_, _*_, _≤_}
 use lib.ListN.{length}
 use Rattle.codec.specs.Bytes.{chunk}
-use Rattle.records.specs.declared.head.Head.{Head}
 use Rattle.records.specs.declared.entry.Entry.{Entry}
-use Rattle.records.specs.Heads.{headAt}
 use Rattle.records.specs.Entries.{entryAt}
 use Rattle.messages.specs.PushHeaders.{pushOf}
 use Rattle.slots.specs.declared.listed.Listed.{Listed}
 use Rattle.document.specs.Tables.{slotsFrom}
-use Rattle.document.specs.Messages.{headSpot, entrySpot, messageOf}
+use Rattle.document.specs.Messages.{entrySpot, messageOf}
 use Rattle.document.specs.Receive.{listedIn, joinedIn}
+use Rattle.document.specs.ReadingMessages.{headIn}
 use Rattle.merge.specs.Turns.{slots-map}
 
 abbrev pub headsIn : List ℕ → ℕ
@@ -20,9 +19,6 @@ headsIn l = pushOf (chunk l 0 16) .heads
 
 abbrev pub entriesIn : List ℕ → ℕ
 entriesIn l = pushOf (chunk l 0 16) .entries
-
-abbrev pub headIn : List ℕ → ℕ → Head
-headIn l i = headAt l (headSpot i)
 
 abbrev pub entryIn : List ℕ → ℕ → Entry
 entryIn l i = entryAt l (entrySpot (headsIn l) i)

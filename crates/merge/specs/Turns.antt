@@ -11,8 +11,8 @@ use Rattle.document.specs.Tables.{Table, slotsFrom, tableOf}
 use Rattle.document.specs.Steps.{joined, joinAll, tooMany}
 use Rattle.steps.specs.Standing.{Is}
 use Rattle.steps.specs.Joining.{hasRoom}
-use Rattle.steps.specs.States.{Held, Made, many-all}
-use Rattle.merge.specs.Working.{Works, AllHeld, Housed, made-works, made-all, made-full, past, join-made, housed-joined}
+use Rattle.steps.specs.States.{Held, Made, many-all, Housed, made-past}
+use Rattle.merge.specs.Working.{Works, AllHeld, made-works, made-all, made-full, join-made, housed-joined}
 
 -- ---- slots
 
@@ -110,7 +110,7 @@ module _ (f : Head → Table → Table) (g : ℕ → Head) (n : ℕ) (t : Table)
     down-full {l} {l'} j d more h e r m full {l2} =
         made-full (down-many many (j - 1) (omega arith) (omega (arith, d .high))
         (ap tooMany (sym (ap (λ (x : Head). f x (tableOf l)) e ∙ ap (f (g (j - 1))) (d .is) ∙ down-next j (d .low)
-        (d .high))) ∙ past m full))
+        (d .high))) ∙ made-past m full))
 
     pub down-end : {l : List ℕ} (j : ℕ) → Down j l → (1 < j → ⊥) → Made true l (downTo 1)
     down-end {l} j d last =
@@ -145,7 +145,7 @@ module _ (x : ℕ → Listed) (k : ℕ) (goal : Table) where
       step = join-made e (j .works) turn-held p q
 
       pub turn-full : r ≡ false → {l2 : List ℕ} → Made false l2 goal
-      turn-full full = made-full (ap tooMany (sym leads-on) ∙ many-all _ (joined e (tableOf l)) (past step full))
+      turn-full full = made-full (ap tooMany (sym leads-on) ∙ many-all _ (joined e (tableOf l)) (made-past step full))
 
       pub turn-next : r ≡ true → Joining (i + 1) l'
       turn-next went =

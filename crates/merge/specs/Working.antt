@@ -3,30 +3,23 @@
 use mathlib.Core.Path.{_≡_, refl, ap, sym, subst, _∙_}
 use mathlib.Core.Logic.{_⊎_, inl, inr}
 use mathlib.Core.Bool.{Bool, true, false, not, cond}
-use mathlib.Core.Option.{Option, some, none}
 use mathlib.Core.List.{List, [], _∷_, _++_, List·Memᴰ·head, List·Memᴰ·tail}
 use Prim.Native.Nat.{ℕ, _≤_}
 use native.Mathlib.Omega.{arith}
 use lib.Dec.{eqb}
-use lib.ListN.{length}
 use borrow.Author.Tests.{eqb-true}
 use Rattle.records.specs.declared.head.Head.{Head}
-use Rattle.records.specs.declared.entry.Entry.{Entry}
 use Rattle.slots.specs.declared.replica.Replica.{Replica}
 use Rattle.slots.specs.declared.listed.Listed.{Listed}
-use Rattle.document.specs.Tables.{Table, withHighest, find, entriesOf, tableOf}
+use Rattle.document.specs.Tables.{Table, withHighest, tableOf}
 use Rattle.document.specs.Steps.{putHead, put, renewed, joined, joinAll, tooMany}
-use Rattle.views.specs.Lists.{In, not-none}
-use Rattle.views.specs.Joins.{join-in, entries-in}
+use Rattle.views.specs.Lists.{In}
+use Rattle.views.specs.Joins.{join-in}
 use Rattle.steps.specs.Standing.{Each, end, more, Is, Stands, stands, never}
 use Rattle.steps.specs.Putting.{hasSlot}
 use Rattle.steps.specs.Joining.{hasRoom}
-use Rattle.steps.specs.Room.{Room, crowd, room-of, of-room, not-room, each-found, put-size, room-put, room-joined, many-put}
-use Rattle.steps.specs.States.{Held, Made, held-put, not-swap}
-
--- each entry's directory is held
-abbrev pub Housed : Table → Type 0
-Housed t = (x : Listed) → In x (t .entries) → Held t (x .directory)
+use Rattle.steps.specs.Room.{Room, crowd, room-of, of-room, not-room, put-size, room-put, room-joined, many-put}
+use Rattle.steps.specs.States.{Held, Made, held-put, Housed, crowd-most, made-within}
 
 -- the directories of these entries are held
 abbrev pub AllHeld : List Listed → Table → Type 0
@@ -40,7 +33,7 @@ pub record Works (l : List ℕ) : Type 0 where
 -- ---- what the outcome of a step says
 
 pub made-room : {l : List ℕ} {u : Table} → Made true l u → Room u
-made-room {l} {u} m = room-of u (not-swap true (tooMany u) (m .room))
+made-room {l} {u} m = room-of u (made-within m refl)
 
 pub made-works : {l : List ℕ} {u : Table} → Made true l u → Housed u → Works l
 made-works {l} {u} m h =
@@ -63,10 +56,6 @@ made-all {l} {u} w e = subst (λ (z : Table). Made true l z) e (made-none w)
 pub made-full : {l : List ℕ} {u : Table} → tooMany u ≡ true → Made false l u
 made-full {l} {u} m = record { room = ap not (sym m); bytes = λ e. never e }
 
--- a step without room
-pub past : {l : List ℕ} {r : Bool} {u : Table} → Made r l u → r ≡ false → tooMany u ≡ true
-past {l} {r} {u} m e = not-swap r (tooMany u) (m .room) ∙ ap not e
-
 -- the answer is known
 pub made-as : {l : List ℕ} {r s : Bool} {u : Table} → r ≡ s → Made r l u → Made s l u
 made-as {l} {r} {s} {u} e m = subst (λ (b : Bool). Made b l u) e m
@@ -78,25 +67,6 @@ made-is {l} {r} {u} {v} e m = subst (λ (z : Table). Made r l z) e m
 -- the highest clock is no part of the limits
 pub room-high : (t : Table) (c : ℕ) → Room t → Room (withHighest t c)
 room-high t c k = record { few-replicas = k .few-replicas; few-entries = k .few-entries; crowds = k .crowds }
-
--- ---- a directory that is not held has no entries
-
-pub crowd-most : (t : Table) → Room t → Housed t → (d : ℕ) → crowd t d ≤ 32
-crowd-most t k h d = go (find d (t .replicas)) refl
-  where
-    empty : (es : List Entry) → ((e : Entry) → In e es → ⊥) → length es ≤ 32
-    empty [] f = omega arith
-    empty (e ∷ es) f = absurd (f e (List·Memᴰ·head refl))
-
-    go : (o : Option Replica) → find d (t .replicas) ≡ o → crowd t d ≤ 32
-    go (some r) e =
-        let p = each-found (λ (r : Replica). crowd t (r .head .id) ≤ 32) d (t .replicas) r (k .crowds) e in
-        subst (λ (i : ℕ). crowd t i ≤ 32) (p .1) (p .0)
-    go none e =
-        empty (entriesOf d (t .entries)) (λ x i.
-        let y = entries-in d (t .entries) x i in
-        let r = h (y .0) (y .1) in
-        not-none (sym e ∙ ap (λ (i : ℕ). find i (t .replicas)) (sym (y .2)) ∙ r .1))
 
 -- ---- a head that is put
 

@@ -6,36 +6,19 @@ use messages::PushHeader;
 use numbers::nodes;
 use records::Head;
 use steps::put;
+use steps::state::with_holders;
 use table::find;
 use table::find::Found;
 ghost use mathlib.Core.Path.{_≡_};
 ghost use Prim.Native.Nat.{_≤_};
 ghost use lib.ListN.{length};
 ghost use Rattle.document.specs.Tables.{headOf, tableOf};
-ghost use Rattle.document.specs.Steps.{withHolders};
 ghost use Rattle.document.specs.Messages.{messageOf};
 ghost use Rattle.document.specs.Receive.{merged, stepB, stepC, taken, withOwn};
 ghost use Rattle.steps.specs.States.{Made};
 ghost use Rattle.merge.specs.Working.{Works};
 ghost use Rattle.merge.specs.Message.{Sized};
 ghost use Rattle.merge.specs.Heads.{missing};
-
-// The head with other holders.
-fn with_holders(h: Head, holders: u8) -> Head
-    ensures { λ r. ⌜ r ≡ withHolders h holders ⌝ }
-{
-    let name = h.name;
-    Head {
-        kind: h.kind,
-        live: h.live,
-        id: h.id,
-        stamp: h.stamp,
-        holders,
-        depth: h.depth,
-        directory: h.directory,
-        name,
-    }
-}
 
 // The head with the own node among its holders.
 fn with_own(t: &[u8], h: Head) -> Head

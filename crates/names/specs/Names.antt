@@ -1,18 +1,18 @@
 -- Names: their bytes, when one is a name, and when two are the same. What the contracts of `names` cite.
 -- Assumes nothing.
 use mathlib.Core.Path.{_≡_, refl, ap, sym, _∙_}
-use Prim.Native.Nat.{ℕ, zero, suc, _+_, _-_, _<_, _≤_}
+use Prim.Native.Nat.{ℕ, _+_, _-_, _<_, _≤_}
 use native.Mathlib.Omega.{arith}
 use mathlib.Core.Bool.{Bool, true, false, _&&_, not, cond}
 use mathlib.Core.List.{List, _∷_, _++_, append-nil}
-use native.Mathlib.Nat.{zero-add, sub-zero}
+use native.Mathlib.Nat.{zero-add}
 use lib.ListN.{length, getD, take, drop, length-drop}
 use lib.Seq.{drop-length, take-all, take-append-seam, drop-append-seam}
 use lib.Dec.{eqb, leb}
 use borrow.Author.Tests.{eqb-true, eq-eqb, le-leb, lt-leb}
 use Rattle.codec.specs.Bytes.{chunk, splice, u8At, u8, zeros, allAre, sameBytes}
 use Rattle.codec.specs.Lists.{every, and-true, and-right}
-use Rattle.codec.specs.Laws.{reads, same-eq, same-refl, splice-splice, written-out, length-chunk, getD-chunk, chunk-chunk, u8-back, chunk-add}
+use Rattle.codec.specs.Laws.{reads, same-eq, same-refl, splice-splice, written-out, length-chunk, getD-chunk, chunk-chunk, u8-back, chunk-add, all-zeros, drop-zeros}
 use Rattle.names.specs.declared.Name.{Name}
 
 -- "Name: one length byte, then fifteen bytes": the name that stands at o, and the sixteen bytes of a name
@@ -62,11 +62,6 @@ unfolding sameName
 same-name-refl a = simp (eq-eqb (a .len) (a .len) refl, same-refl (a .bytes))
 
 -- a text copied over fifteen zeros is followed by zeros
-drop-zeros : (n k : ℕ) → drop k (zeros n) ≡ zeros (n - k)
-drop-zeros n zero = rw sub-zero
-drop-zeros zero (suc k) = ap zeros {x = 0} {y = 0 - suc k} (omega arith)
-drop-zeros (suc n) (suc k) = drop-zeros n k ∙ ap zeros {x = n - k} {y = suc n - suc k} (omega arith)
-
 pub from-short : (s : List ℕ) → length s ≤ 15 → record { len = length s; bytes = splice (zeros 15) 0 s } ≡ nameFrom s
 unfolding nameFrom splice
 from-short s h = simp (le-leb (length s) 15 h, zero-add, drop-zeros 15 (length s))
@@ -110,11 +105,6 @@ name-back l o h =
     ∙ sym (chunk-add l o 1 15)
 
 -- ---- what a caller gives
-
-all-zeros : (n : ℕ) → allAre 0 (zeros n) ≡ true
-unfolding every
-all-zeros zero = refl
-all-zeros (suc n) = all-zeros n
 
 -- the name made from a text is a name exactly if the text may be one
 pub name-from : (s : List ℕ) → isName (nameFrom s) ≡ isText s

@@ -1,18 +1,35 @@
 -- Laws of nodes, ids and stamps: which nodes are in a set that was joined or had one taken out, how the code's shifts meet
 -- the definitions, the parts of an id and of a stamp, and the order of stamps. Assumes nothing.
 use mathlib.Core.Path.{_≡_, refl, ap, sym, _∙_}
-use mathlib.Core.Bool.{Bool, true, false, _||_, cond, true≢false}
+use mathlib.Core.Bool.{Bool, true, false, _||_, cond, or-true, true≢false}
 use Prim.Native.Nat.{ℕ, zero, suc, _+_, _*_, _-_, _/_, _%_, _^_, _≤_, _<_, max}
 use native.Mathlib.Omega.{arith}
-use native.Mathlib.Nat.{div-self, div-eq-of-lt, mul-div-cancel, pow-suc, one-mul, zero-div, div-lt-iff-lt-mul}
+use native.Mathlib.Nat.{div-self, div-eq-of-lt, mul-div-cancel, pow-suc, one-mul, div-lt-iff-lt-mul}
 use native.Mathlib.Decide.{decLt}
-use lib.Dec.{eqb, lit<}
+use lib.Dec.{eqb, leb, lit<}
 use lib.Pow.{pow-pos, pow-lt, pow-mono, pow-add, shl-exact, high, ones-split, ones-lt}
 use lib.Bits.{or-shr, or-step, or-lt, bitXor, xor-shr, xor-step, differ}
-use borrow.Author.Tests.{eqb-true, eq-eqb, ne-eqb, lt-ltb, le-ltb, ltb-true}
+use borrow.Author.Tests.{eqb-true, eq-eqb, ne-eqb, lt-ltb, le-ltb, ltb-true, leb-true}
+use Rattle.codec.specs.Lists.{and-true}
 use Rattle.numbers.specs.Clocks.{newClock}
-use Rattle.numbers.specs.Ids.{idOf, maker, count, stampOf, clockOf, issuer}
-use Rattle.numbers.specs.Nodes.{has, single, all, join, without, isSet}
+use Rattle.numbers.specs.Ids.{idOf, maker, count, stampOf, clockOf, issuer, isMade, isId}
+use Rattle.numbers.specs.Nodes.{has, single, all, join, without, isSet, isSize, isNode}
+
+-- ---- "Node: 1 to N, N at most 8."
+
+pub size-most : (n : ℕ) → isSize n ≡ true → n ≤ 8
+size-most n e = leb-true n 8 (and-true (leb 1 n) _ e .1)
+
+pub node-most : (n i : ℕ) → isNode n i ≡ true → i ≤ n
+node-most n i e = leb-true i n (and-true (leb 1 i) _ e .1)
+
+pub node-small : (n i : ℕ) → isSize n ≡ true → isNode n i ≡ true → (1 ≤ i) × (i ≤ 8)
+node-small n i p q = (leb-true 1 i (and-true (leb 1 i) _ q .0), omega (arith, size-most n p, node-most n i q))
+
+-- an id that a node made is an id
+pub made-id : (n id : ℕ) → isMade n id ≡ true → isId n id ≡ true
+unfolding isId
+made-id n id e = ap (λ (b : Bool). eqb id 0 || b) e ∙ or-true (eqb id 0)
 
 -- ---- as the code has them
 
@@ -96,26 +113,6 @@ unfolding has single
 has-single zero h = absurd (omega arith)
 has-single (suc i) h = rw (div-self (pow-pos i))
 
--- one bit stands at one place
-other-bit : (i j : ℕ) → (i ≡ j → ⊥) → 2 ^ i / 2 ^ j % 2 ≡ 0
-other-bit i j ne = go (decLt i j)
-  where
-    up : j < i → 2 ^ i / 2 ^ j ≡ 2 ^ (i - j - 1) * 2
-    up lt =
-        ap (λ (k : ℕ). 2 ^ k / 2 ^ j) {x = i} {y = suc (i - j - 1) + j} (omega arith)
-        ∙ ap (λ (k : ℕ). k / 2 ^ j) (pow-add 2 (suc (i - j - 1)) j)
-        ∙ mul-div-cancel (2 ^ suc (i - j - 1)) (pow-pos j) ∙ pow-suc 2 (i - j - 1)
-
-    go : Dec (i < j) → 2 ^ i / 2 ^ j % 2 ≡ 0
-    go (yes lt) = rw (div-eq-of-lt (pow-lt lt))
-    go (no nl) = rw (up (omega (arith, ne, nl))) (omega arith)
-
-pub has-single-other : (i j : ℕ) → (i ≡ j → ⊥) → has (single i) j ≡ false
-unfolding has single
-has-single-other i zero h = refl
-has-single-other zero (suc j) h = ne-eqb (0 / 2 ^ j % 2) 1 (λ e. omega (arith, zero-div (2 ^ j)))
-has-single-other (suc i) (suc j) h = rw (other-bit i j (λ e. h (ap suc e)))
-
 differ-zero : (x : ℕ) → differ x 0 ≡ x
 differ-zero zero = refl
 differ-zero (suc x) = refl
@@ -143,6 +140,20 @@ has-without-same s (suc i) = go (eqb (s / 2 ^ i % 2) 1) refl
     go : (b : Bool) → eqb (s / 2 ^ i % 2) 1 ≡ b → eqb (cond b (bitXor s (2 ^ i)) s / 2 ^ i % 2) 1 ≡ false
     go true e = rw (bit-turned s (2 ^ i) i, eqb-true (s / 2 ^ i % 2) 1 e, div-self (pow-pos i))
     go false e = e
+
+-- one bit stands at one place
+other-bit : (i j : ℕ) → (i ≡ j → ⊥) → 2 ^ i / 2 ^ j % 2 ≡ 0
+other-bit i j ne = go (decLt i j)
+  where
+    up : j < i → 2 ^ i / 2 ^ j ≡ 2 ^ (i - j - 1) * 2
+    up lt =
+        ap (λ (k : ℕ). 2 ^ k / 2 ^ j) {x = i} {y = suc (i - j - 1) + j} (omega arith)
+        ∙ ap (λ (k : ℕ). k / 2 ^ j) (pow-add 2 (suc (i - j - 1)) j)
+        ∙ mul-div-cancel (2 ^ suc (i - j - 1)) (pow-pos j) ∙ pow-suc 2 (i - j - 1)
+
+    go : Dec (i < j) → 2 ^ i / 2 ^ j % 2 ≡ 0
+    go (yes lt) = rw (div-eq-of-lt (pow-lt lt))
+    go (no nl) = rw (up (omega (arith, ne, nl))) (omega arith)
 
 pub has-without : (s i j : ℕ) → (i ≡ j → ⊥) → has (without s i) j ≡ has s j
 unfolding has without single

@@ -16,22 +16,20 @@ use Rattle.names.specs.Names.{nameAt, sameName}
 use Rattle.numbers.specs.Nodes.{has}
 use Rattle.records.specs.declared.head.Head.{Head}
 use Rattle.records.specs.declared.entry.Entry.{Entry}
-use Rattle.records.specs.Heads.{headAt, headInRange, head-fields}
+use Rattle.records.specs.Heads.{headInRange, head-fields}
 use Rattle.records.specs.Entries.{entryAt, entryInRange, entry-fields}
 use Rattle.messages.specs.declared.push_header.PushHeader.{PushHeader}
 use Rattle.messages.specs.PushHeaders.{pushAt, pushInRange}
 use Rattle.document.specs.Tables.{everySlot}
 use Rattle.document.specs.Sound.{isLive, isDirectory, isRootId, makerHolds}
 use Rattle.document.specs.Messages.{headSpot, entrySpot, messageOf, messageInRange, hangsTogether, sameHeadId, sameChildName}
+use Rattle.document.specs.ReadingMessages.{headIn}
 
 -- document 01's judgement: `readPush n l` is a push exactly if this holds
 abbrev pub isPush : ℕ → List ℕ → Bool
 isPush n l = messageInRange n l && hangsTogether (messageOf l)
 
--- the records of a message
-abbrev pub headIn : List ℕ → ℕ → Head
-headIn l i = headAt l (headSpot i)
-
+-- the entry that stands i-th behind k heads
 abbrev pub entryIn : ℕ → List ℕ → ℕ → Entry
 entryIn k l i = entryAt l (entrySpot k i)
 

@@ -1,6 +1,4 @@
-pub mod Chains
 pub mod Judging
 pub mod Pushing
-pub mod ReadBack
 pub mod Reading
 pub mod Writing

@@ -8,8 +8,7 @@ use native.Mathlib.Nat.{zero-add}
 use native.Mathlib.Omega.{arith}
 use lib.ListN.{length, length-append}
 use Rattle.codec.specs.Bytes.{u8At, splice}
-use Rattle.codec.specs.Laws.{getD-chunk, splice-splice}
-use Rattle.codec.specs.Lists.{and-true}
+use Rattle.codec.specs.Laws.{splice-splice}
 use Rattle.records.specs.declared.head.Head.{Head}
 use Rattle.records.specs.declared.entry.Entry.{Entry}
 use Rattle.records.specs.Heads.{headBytes, length-headBytes}
@@ -17,32 +16,25 @@ use Rattle.records.specs.Entries.{entryBytes, length-entryBytes}
 use Rattle.messages.specs.declared.push_header.PushHeader.{PushHeader}
 use Rattle.messages.specs.PushHeaders.{pushBytes, push-ext, length-pushBytes}
 use Rattle.slots.specs.declared.replica.Replica.{Replica}
-use Rattle.slots.specs.TableHeaders.{tableHeaderOf}
-use Rattle.document.specs.Tables.{find, hasId, headOf?, headOf, entriesOf, rows, slotsFrom, replicaIn, entryIn, replicasUsed, entriesUsed, tableOf, tableInRange}
-use Rattle.document.specs.Sound.{rules, soundBytes}
+use Rattle.document.specs.Tables.{find, hasId, headOf?, headOf, entriesOf, rows, slotsFrom, replicaIn, entryIn, replicasUsed, entriesUsed, tableOf}
 use Rattle.document.specs.Messages.{Push, headerOfPush, messageBytes, chainUp, entrySpot, pushFrom}
 use Rattle.document.specs.ReadingMessages.{length-messageBytes}
-use Rattle.table.specs.Ranges.{range-length}
+use Rattle.document.specs.Rows.{rows-length}
+use Rattle.document.specs.Reading.{own-at, sound-length}
 use Rattle.table.specs.declared.find.Found.the-variants.{At}
 use Rattle.table.specs.Slots.{entriesIn, firstReplica, entries-count, found-slot}
 use Rattle.views.specs.Puts.{find-id}
-use Rattle.views.specs.Sounds.{Sound, sound-is}
-use Rattle.pushes.specs.Writing.{Held, Written, pushOfHeld, length-rows}
-use Rattle.pushes.specs.Chains.{bytes-sound, head-count}
-
--- the own node, read in place
-own-at : (l : List ℕ) → u8At l 2 ≡ tableOf l .own
-unfolding tableOf tableHeaderOf
-own-at l = sym (getD-chunk l 0 32 2 (omega arith))
+use Rattle.views.specs.Sounds.{Sound, sound-table}
+use Rattle.views.specs.Chains.{head-count}
+use Rattle.pushes.specs.Writing.{Held, Written, pushOfHeld}
 
 module _ (l : List ℕ) (r : Replica) (held : Held l r) where
   -- a sound table is as long as a table
   pub held-long : 13344 ≤ length l
-  unfolding soundBytes
-  held-long = omega (arith, range-length l (and-true (tableInRange l) (rules (tableOf l)) (held .sound) .0))
+  held-long = sound-length l (held .sound)
 
   table-sound : Sound (tableOf l)
-  table-sound = sound-is (tableOf l) (bytes-sound l (held .sound))
+  table-sound = sound-table l (held .sound)
 
   head-held : headOf (tableOf l) (r .head .id) ≡ some (r .head)
   head-held = ap headOf? (held .found)
@@ -85,8 +77,8 @@ parts-written out p f =
     let d = rows entryBytes (p .entries) in
     let la = length-pushBytes (headerOfPush p) in
     let lb = length-headBytes (p .first) in
-    let lc = length-rows headBytes 40 length-headBytes (p .above) in
-    let ld = length-rows entryBytes 32 length-entryBytes (p .entries) in
+    let lc = rows-length headBytes 40 length-headBytes (p .above) in
+    let ld = rows-length entryBytes 32 length-entryBytes (p .entries) in
     let all = length-messageBytes p in
     let lab : length (a ++ b) ≡ 56 = length-append a b ∙ omega arith in
     let labc : length ((a ++ b) ++ c) ≡ 16 + 40 * suc (length (p .above)) = length-append (a ++ b) c ∙ omega arith in

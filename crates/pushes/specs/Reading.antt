@@ -1,18 +1,18 @@
 -- The judgement in the order of reading is document 01's: both say of the same records, by place, the same things
--- (`Fine`), for every byte string. And what a push that was read has at each place. Assumes nothing.
+-- (`Fine`), for every byte string. Assumes nothing.
 use mathlib.Core.Path.{_≡_, refl, ap, sym, _∙_}
 use mathlib.Core.Bool.{Bool, true, false, _&&_, _||_, not, cond}
 use mathlib.Core.Option.{some, none}
 use mathlib.Core.List.{List, _∷_}
 use Prim.Native.Nat.{ℕ, zero, suc, _+_, _*_, _-_, _≤_, _<_, max}
 use native.Mathlib.Decide.{decLt}
-use native.Mathlib.Nat.{add-zero, zero-add}
+use native.Mathlib.Nat.{zero-add}
 use native.Mathlib.Omega.{arith}
 use lib.Dec.{eqb, leb, ltb}
-use lib.ListN.{length, getD}
+use lib.ListN.{length}
 use borrow.Author.Tests.{eqb-true, ne-eqb, leb-true}
 use Rattle.codec.specs.Bytes.{chunk, markedAt, zeroAt}
-use Rattle.codec.specs.Lists.{and-true}
+use Rattle.codec.specs.Lists.{and-true, both-ways, and-both}
 use Rattle.numbers.specs.Nodes.{has, isNode, isWithin}
 use Rattle.numbers.specs.Ids.{isVersion}
 use Rattle.records.specs.declared.head.Head.{Head}
@@ -20,25 +20,18 @@ use Rattle.records.specs.declared.entry.Entry.{Entry}
 use Rattle.records.specs.Heads.{headOf, isRoot, isOrdinary, headFits, headInRange, root-is}
 use Rattle.records.specs.Entries.{entryInRange}
 use Rattle.messages.specs.declared.push_header.PushHeader.{PushHeader}
-use Rattle.messages.specs.PushHeaders.{pushMark, pushAt, pushFits, pushInRange, push-ext}
+use Rattle.messages.specs.PushHeaders.{pushMark, pushAt, pushFits, pushInRange}
 use Rattle.document.specs.Layouts.{head-range-fits}
-use Rattle.document.specs.Reading.{and-both}
-use Rattle.document.specs.ReadingMessages.{read-some}
+use Rattle.document.specs.ReadingMessages.{headIn}
 use Rattle.document.specs.Rows.{length-slots}
 use Rattle.document.specs.Tables.{slotsFrom, everySlot}
 use Rattle.document.specs.Sound.{isLive, isDirectory, isRootId, distinct}
-use Rattle.document.specs.Messages.{Push, headerOfPush, headSpot, entrySpot, messageOf, messageInRange, chained, sameHeadId, sameChildName, isEmpty, hangsTogether, readPush}
+use Rattle.document.specs.Messages.{headSpot, entrySpot, messageOf, messageInRange, chained, sameHeadId, sameChildName, isEmpty, hangsTogether, readPush}
 use Rattle.table.specs.Slots.{every-slots}
 use Rattle.table.specs.Rules.{newSlot, distinct-slots}
-use Rattle.pushes.specs.Judging.{isPush, inOrder, headIn, entryIn, headerFine, heldBy, linked, topFine, firstFine, idNew, headFine, endsAtRoot, childNew, entryFine}
+use Rattle.pushes.specs.Judging.{isPush, inOrder, entryIn, headerFine, heldBy, linked, topFine, firstFine, idNew, headFine, endsAtRoot, childNew, entryFine}
 
 -- ---- slots, one by one
-
--- two tests that hold together are one
-same-test : (a b : Bool) → (a ≡ true → b ≡ true) → (b ≡ true → a ≡ true) → a ≡ b
-same-test true b f g = sym (f refl)
-same-test false true f g = g refl
-same-test false false f g = refl
 
 pub slots-get : (f : ℕ → Bool) (s n : ℕ) → everySlot f s n ≡ true → (i : ℕ) → s ≤ i → i < s + n → f i ≡ true
 unfolding everySlot
@@ -417,7 +410,7 @@ module _ (n : ℕ) (l : List ℕ) where
   -- the two judgements are one
   pub in-order : inOrder n l ≡ isPush n l
   in-order =
-      same-test (inOrder n l) (isPush n l) (λ e. fine-push (order-fine n l e)) (λ e. fine-order n l (push-fine e))
+      both-ways (inOrder n l) (isPush n l) (λ e. fine-push (order-fine n l e)) (λ e. fine-order n l (push-fine e))
 
   -- what is read is what was found fine
   pub read-push : readPush n l ≡ cond (isPush n l) (some (messageOf l)) none
@@ -443,65 +436,3 @@ sized-by n l h e f =
     let heads : h .heads ≡ pushAt l 0 .heads = ap (λ (p : PushHeader). p .heads) e in
     let entries : h .entries ≡ pushAt l 0 .entries = ap (λ (p : PushHeader). p .entries) e in
     (omega (arith, s .one), omega (arith, s .most), omega (arith, s .few), omega (arith, s .size))
-
--- ---- what a push that was read has, by the places of its records
-
--- a slot, among those that stand one behind the other
-pub slot-at : {A : Type 0} (g : ℕ → A) (z : A) (s n i : ℕ) → i < n → getD (slotsFrom g s n) i z ≡ g (s + i)
-unfolding slotsFrom
-slot-at g z s zero i h = absurd (omega arith)
-slot-at g z s (suc n) zero h = ap g (sym (add-zero s))
-slot-at g z s (suc n) (suc i) h = slot-at g z (suc s) n i (omega arith) ∙ ap g {x = suc s + i} {y = s + suc i} (omega
-    arith)
-
-module _ (n : ℕ) (l : List ℕ) (p : Push) (e : readPush n l ≡ some p) where
-  -- the bytes are a push, and it is this one
-  pub was-push : isPush n l ≡ true
-  was-push = read-some (isPush n l) (sym (read-push n l) ∙ e) .0
-
-  pub is-message : messageOf l ≡ p
-  is-message = read-some (isPush n l) (sym (read-push n l) ∙ e) .1
-
-  -- so all that is said of its records holds
-  pub was-fine : Fine n l
-  was-fine = push-fine n l was-push
-
-  pub was-sized : Sized n l
-  was-sized = sized n l (was-fine .header)
-
-  -- its header, its heads, its entries
-  pub heads-read : p .first ∷ p .above ≡ slotsFrom (headIn l) 0 (pushAt l 0 .heads)
-  unfolding messageOf
-  heads-read =
-      ap (λ (q : Push). q .first ∷ q .above) (sym is-message)
-      ∙ first-slots (headIn l) (pushAt l 0 .heads) (was-sized .one)
-
-  pub entries-read : p .entries ≡ slotsFrom (entryIn (pushAt l 0 .heads) l) 0 (pushAt l 0 .entries)
-  unfolding messageOf
-  entries-read = ap (λ (q : Push). q .entries) (sym is-message)
-
-  pub header-read : pushAt l 0 ≡ headerOfPush p
-  unfolding messageOf
-  header-read =
-      push-ext (ap (λ (q : Push). q .sender) is-message) (ap (λ (q : Push). q .addressee) is-message)
-      (ap (λ (q : Push). q .version) is-message)
-      (sym (ap length heads-read ∙ length-slots (headIn l) 0 (pushAt l 0 .heads)))
-      (sym (ap length entries-read ∙ length-slots (entryIn (pushAt l 0 .heads) l) 0 (pushAt l 0 .entries)))
-
-  -- head i, and entry i, are those at their places
-  pub head-read : (z : Head) (i : ℕ) → i < pushAt l 0 .heads → getD (p .first ∷ p .above) i z ≡ headIn l i
-  head-read z i h =
-      ap (λ (hs : List Head). getD hs i z) heads-read ∙ slot-at (headIn l) z 0 _ i h ∙ ap (headIn l) (zero-add i)
-
-  pub entry-read : (z : Entry) (i : ℕ) → i < pushAt l 0 .entries → getD (p .entries) i z ≡ entryIn (pushAt l 0 .heads)
-      l i
-  entry-read z i h =
-      ap (λ (es : List Entry). getD es i z) entries-read ∙ slot-at (entryIn (pushAt l 0 .heads) l) z 0 _ i h
-      ∙ ap (entryIn (pushAt l 0 .heads) l) (zero-add i)
-
-  -- each lies within the bytes
-  pub head-within : (i : ℕ) → i < pushAt l 0 .heads → 16 + 40 * (i + 1) ≤ length l
-  head-within i h = omega (arith, was-sized .size)
-
-  pub entry-within : (i : ℕ) → i < pushAt l 0 .entries → 16 + 40 * pushAt l 0 .heads + 32 * (i + 1) ≤ length l
-  entry-within i h = omega (arith, was-sized .size)

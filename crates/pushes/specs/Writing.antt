@@ -3,15 +3,11 @@
 use mathlib.Core.Path.{_≡_, refl, ap, sym, _∙_}
 use mathlib.Core.Bool.{Bool, true, false, cond}
 use mathlib.Core.Option.{some, none}
-use mathlib.Core.List.{List, [], _∷_, _++_, append-assoc, append-nil}
-use Prim.Native.Nat.{ℕ, zero, suc, _+_, _*_, _-_, _≤_, _<_}
-use native.Mathlib.Nat.{mul-zero, mul-suc}
+use mathlib.Core.List.{List, [], _∷_, _++_}
+use Prim.Native.Nat.{ℕ, suc, _+_, _*_, _-_, _≤_, _<_}
 use native.Mathlib.Omega.{arith}
-use lib.Dec.{eqb}
-use lib.ListN.{length, length-append}
-use borrow.Author.Tests.{eq-eqb, ne-eqb}
+use lib.ListN.{length}
 use Rattle.codec.specs.Bytes.{splice}
-use Rattle.codec.specs.Laws.{splice-splice, splice-none}
 use Rattle.records.specs.declared.head.Head.{Head}
 use Rattle.records.specs.declared.entry.Entry.{Entry}
 use Rattle.records.specs.Heads.{headAt, headBytes, length-headBytes}
@@ -20,9 +16,10 @@ use Rattle.messages.specs.declared.push_header.PushHeader.{PushHeader}
 use Rattle.slots.specs.declared.replica.Replica.{Replica}
 use Rattle.slots.specs.declared.listed.Listed.{Listed}
 use Rattle.slots.specs.Listings.{listed-fields}
-use Rattle.document.specs.Tables.{Table, find, headOf, entriesOf, rows, slotsFrom, replicaSlot, entrySlot, entryIn, replicasUsed, entriesUsed, tableOf}
+use Rattle.document.specs.Tables.{find, headOf, entriesOf, rows, slotsFrom, replicaSlot, entrySlot, entryIn, replicasUsed, entriesUsed, tableOf}
 use Rattle.document.specs.Sound.{soundBytes}
-use Rattle.document.specs.Messages.{Push, headerOfPush, messageBytes, above, chainUp, pushFrom}
+use Rattle.document.specs.Messages.{Push, headerOfPush, messageBytes, pushFrom}
+use Rattle.document.specs.Rows.{rows-one, rows-written}
 use Rattle.table.specs.declared.find.Found.the-variants.{At, Nothing}
 use Rattle.table.specs.Slots.{isListedIn, firstReplica}
 use Rattle.table.specs.Rules.{heldIn, held-at, not-held}
@@ -45,68 +42,6 @@ pub record Written (l : List ℕ) (r : Replica) (header : PushHeader) (room : �
 -- what entry slot s adds to the directory's entries
 unfoldable pub listedAt : List ℕ → ℕ → ℕ → List Entry
 listedAt l d s = cond (isListedIn l d s) (entryIn l s .entry ∷ []) []
-
--- ---- records, one behind the other
-
-pub rows-append : {A : Type 0} (f : A → List ℕ) (xs ys : List A) → rows f (xs ++ ys) ≡ rows f xs ++ rows f ys
-unfolding rows
-rows-append f [] ys = refl
-rows-append f (x ∷ xs) ys =
-    ap (λ (r : List ℕ). f x ++ r) (rows-append f xs ys) ∙ sym (append-assoc (f x) (rows f xs) (rows f ys))
-
-pub rows-none : {A : Type 0} (f : A → List ℕ) → rows f [] ≡ []
-unfolding rows
-rows-none f = refl
-
-pub rows-one : {A : Type 0} (f : A → List ℕ) (x : A) → rows f (x ∷ []) ≡ f x
-unfolding rows
-rows-one f x = append-nil (f x)
-
-pub length-rows : {A : Type 0} (f : A → List ℕ) (w : ℕ) → ((x : A) → length (f x) ≡ w) → (xs : List A) →
-    length (rows f xs) ≡ w * length xs
-unfolding rows
-length-rows f w e [] = rw mul-zero
-length-rows f w e (x ∷ xs) = rw (length-append, e x, length-rows f w e xs, mul-suc) (omega arith)
-
--- some written, and then the rest behind them
-pub rows-written : {A : Type 0} (f : A → List ℕ) (w : ℕ) → ((x : A) → length (f x) ≡ w) → (out : List ℕ) (o : ℕ)
-    (xs ys : List A) → o + w * length xs + w * length ys ≤ length out →
-    splice (splice out o (rows f xs)) (o + w * length xs) (rows f ys) ≡ splice out o (rows f (xs ++ ys))
-rows-written f w e out o xs ys h =
-    splice-splice out o (rows f xs) (w * length xs) (rows f ys) (length-rows f w e xs)
-    (omega (arith, length-rows f w e ys))
-    ∙ ap (splice out o) (sym (rows-append f xs ys))
-
--- ---- the chain of heads, one step up
-
-pub chain-root : (k d : ℕ) (t : Table) → d ≡ 0 → chainUp k d t ≡ []
-unfolding chainUp
-chain-root zero d t e = refl
-chain-root (suc k) d t e = simp (eq-eqb d 0 e)
-
-pub chain-gone : (k d : ℕ) (t : Table) → headOf t d ≡ none → chainUp k d t ≡ []
-unfolding chainUp
-chain-gone zero d t e = refl
-chain-gone (suc k) d t e = go (eqb d 0)
-  where
-    go : (b : Bool) → cond b [] (above (headOf t d) (λ (up : ℕ). chainUp k up t)) ≡ []
-    go true = refl
-    go false = rw e
-
-pub chain-next : (k d : ℕ) (t : Table) (h : Head) → (d ≡ 0 → ⊥) → headOf t d ≡ some h →
-    chainUp (suc k) d t ≡ h ∷ chainUp k (h .directory) t
-unfolding chainUp
-chain-next k d t h ne e = simp (ne-eqb d 0 ne, e)
-
-pub chain-up : (most i d : ℕ) (t : Table) (h : Head) → i < most → (d ≡ 0 → ⊥) → headOf t d ≡ some h →
-    chainUp (most - i) d t ≡ h ∷ chainUp (most - (i + 1)) (h .directory) t
-chain-up most i d t h l ne e =
-    ap (λ (k : ℕ). chainUp k d t) {x = most - i} {y = suc (most - (i + 1))} (omega arith)
-    ∙ chain-next (most - (i + 1)) d t h ne e
-
-pub chain-end : (most i d : ℕ) (t : Table) → most ≤ i → chainUp (most - i) d t ≡ []
-unfolding chainUp
-chain-end most i d t l = ap (λ (k : ℕ). chainUp k d t) {x = most - i} {y = 0} (omega arith)
 
 -- ---- the entries of a directory, slot by slot
 
@@ -177,9 +112,3 @@ head-written out i h hs f =
     ∙ ap (λ (o : ℕ). splice (splice out (56 + 40 * i) (rows headBytes (h ∷ []))) o (rows headBytes hs))
     {x = 56 + 40 * (i + 1)} {y = 56 + 40 * i + 40 * 1} (omega arith)
     ∙ rows-written headBytes 40 length-headBytes out (56 + 40 * i) (h ∷ []) hs (omega arith)
-
--- nothing is left to write
-pub rows-end : {A : Type 0} (f : A → List ℕ) (out : List ℕ) (o : ℕ) {xs : List A} → xs ≡ [] →
-    out ≡ splice out o (rows f xs)
-rows-end f out o e =
-    splice-none out o ∙ ap (splice out o) (sym (rows-none f)) ∙ ap (λ xs. splice out o (rows f xs)) (sym e)

@@ -8,7 +8,8 @@ ghost use mathlib.Core.Path.{_≡_};
 ghost use Prim.Native.Nat.{_+_, _*_, _≤_};
 ghost use lib.ListN.{length};
 ghost use Rattle.messages.specs.PushHeaders.{pushAt};
-ghost use Rattle.pushes.specs.Judging.{headIn, entryIn};
+ghost use Rattle.document.specs.ReadingMessages.{headIn};
+ghost use Rattle.pushes.specs.Judging.{entryIn};
 
 // The header.
 pub fn header(m: &[u8]) -> PushHeader

@@ -25,9 +25,10 @@ use Rattle.document.specs.Sound.{distinct, sameId, idsUnique, rootFirst, soundB
 use Rattle.document.specs.Messages.{readAck}
 use Rattle.document.specs.Outcomes.{refused, done, judged}
 use Rattle.document.specs.Calls.{ifAck, clear, clearIn, acknowledged}
+use Rattle.document.specs.Reading.{sound-length}
 use Rattle.table.specs.declared.find.Found.the-variants.{At, Nothing}
 use Rattle.table.specs.Slots.{firstSlot, firstReplica, found-slot, no-slot}
-use Rattle.answers.specs.Answers.{is-sound, sound-length}
+use Rattle.answers.specs.Answers.{is-sound}
 use Rattle.steps.specs.Standing.{sound-stands}
 use Rattle.steps.specs.Writes.{withPending, pending-rewritten}
 

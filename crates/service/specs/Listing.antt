@@ -3,24 +3,24 @@
 use mathlib.Core.Path.{_≡_, refl, ap, sym, _∙_}
 use mathlib.Core.Bool.{Bool, true, false, _&&_, cond}
 use mathlib.Core.Option.{some, none}
-use mathlib.Core.List.{List, [], _∷_, _++_, append-assoc, append-nil}
+use mathlib.Core.List.{List, [], _∷_, _++_}
 use Prim.Native.Nat.{ℕ, zero, suc, _+_, _*_, _-_, _≤_, _<_}
 use native.Mathlib.Nat.{add-zero, add-suc, zero-add, suc-add}
 use native.Mathlib.Omega.{arith}
 use lib.Dec.{eqb}
 use lib.ListN.{length, length-append}
 use borrow.Author.Tests.{lt-ltb, le-ltb}
-use Rattle.codec.specs.Bytes.{u8At, splice}
-use Rattle.codec.specs.Laws.{splice-splice}
+use Rattle.codec.specs.Bytes.{splice}
 use Rattle.records.specs.declared.head.Head.{Head}
 use Rattle.records.specs.declared.entry.Entry.{Entry}
-use Rattle.records.specs.Entries.{entryAt, entryBytes, entry-fields, length-entryBytes}
+use Rattle.records.specs.Entries.{entryAt, entryBytes, length-entryBytes}
 use Rattle.slots.specs.declared.listed.Listed.{Listed}
 use Rattle.slots.specs.Listings.{listed-fields}
 use Rattle.document.specs.Tables.{Table, headOf, rows, slotsFrom, entrySlot, entryIn, entriesUsed, tableOf}
 use Rattle.document.specs.Sound.{isLive, isDirectory}
 use Rattle.document.specs.Outcomes.{refused, done, judged}
 use Rattle.document.specs.Calls.{isShown, listing, listIn}
+use Rattle.document.specs.Rows.{rows-written}
 
 -- slot s is a live entry of the directory, and what it adds to the list
 abbrev pub isShownIn : List ℕ → ℕ → ℕ → Bool
@@ -32,13 +32,6 @@ shownAt l d s = cond (isShownIn l d s) (entryIn l s .entry ∷ []) []
 -- what the first n slots show
 abbrev pub shownIn : List ℕ → ℕ → ℕ → List Entry
 shownIn l d n = listing d (slotsFrom (entryIn l) 0 n)
-
--- ---- fields, read in place
-
-pub live-at : (l : List ℕ) (s : ℕ) → entryIn l s .entry .live ≡ u8At l (entrySlot s + 2)
-live-at l s =
-    ap (λ (x : Listed). x .entry .live) (listed-fields l (entrySlot s))
-    ∙ ap (λ (e : Entry). e .live) (entry-fields l (entrySlot s))
 
 -- ---- one slot more
 
@@ -102,40 +95,18 @@ is-shown l d s e =
 
 -- ---- as records, one behind the other
 
-pub rows-none : rows entryBytes [] ≡ []
-unfolding rows
-rows-none = refl
-
-pub rows-one : (e : Entry) → rows entryBytes (e ∷ []) ≡ entryBytes e
-unfolding rows
-rows-one e = append-nil (entryBytes e)
-
-rows-append : {A : Type 0} (f : A → List ℕ) (xs ys : List A) → rows f (xs ++ ys) ≡ rows f xs ++ rows f ys
-unfolding rows
-rows-append f [] ys = refl
-rows-append f (x ∷ xs) ys =
-    ap (λ (r : List ℕ). f x ++ r) (rows-append f xs ys) ∙ sym (append-assoc (f x) (rows f xs) (rows f ys))
-
-pub length-rows : (es : List Entry) → length (rows entryBytes es) ≡ 32 * length es
-unfolding rows
-length-rows [] = refl
-length-rows (e ∷ es) =
-    omega (arith, length-append (entryBytes e) (rows entryBytes es), length-entryBytes e, length-rows es)
-
 -- what was written of i slots, and then of the next
 pub written-more : (out l : List ℕ) (d i : ℕ) → 32 * length (shownIn l d (i + 1)) ≤ length out →
     splice (splice out 0 (rows entryBytes (shownIn l d i))) (32 * length (shownIn l d i))
     (rows entryBytes (shownAt l d i))
     ≡ splice out 0 (rows entryBytes (shownIn l d (i + 1)))
 written-more out l d i h =
-    let before = rows entryBytes (shownIn l d i) in
-    let here = rows entryBytes (shownAt l d i) in
-    let n : ℕ = 32 * length (shownIn l d i) in
-    ap (λ (o : ℕ). splice (splice out 0 before) o here) (sym (zero-add n))
-    ∙ splice-splice out 0 before n here (length-rows (shownIn l d i))
-    (omega (arith, length-more l d i, length-rows (shownAt l d i)))
-    ∙ ap (splice out 0)
-    (sym (rows-append entryBytes (shownIn l d i) (shownAt l d i)) ∙ ap (rows entryBytes) (sym (shown-more l d i)))
+    let before = shownIn l d i in
+    let here = shownAt l d i in
+    ap (λ (o : ℕ). splice (splice out 0 (rows entryBytes before)) o (rows entryBytes here))
+    (sym (zero-add (32 * length before)))
+    ∙ rows-written entryBytes 32 length-entryBytes out 0 before here (omega (arith, length-more l d i))
+    ∙ ap (λ (es : List Entry). splice out 0 (rows entryBytes es)) (sym (shown-more l d i))
 
 -- ---- the call, of what is not held, and of what is: refusal by refusal
 

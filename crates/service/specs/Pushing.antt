@@ -6,18 +6,18 @@ use mathlib.Core.Option.{Option, some, none}
 use mathlib.Core.List.{List}
 use Prim.Native.Nat.{ℕ, _≤_, _<_}
 use native.Mathlib.Omega.{arith}
-use lib.Dec.{eqb, leb}
+use lib.Dec.{eqb}
 use lib.ListN.{length}
-use borrow.Author.Tests.{leb-true, lt-ltb, le-ltb}
-use Rattle.codec.specs.Lists.{and-true}
+use borrow.Author.Tests.{lt-ltb, le-ltb}
 use Rattle.numbers.specs.Nodes.{isNode, has}
+use Rattle.numbers.specs.Laws.{size-most, node-most}
 use Rattle.slots.specs.declared.replica.Replica.{Replica}
-use Rattle.document.specs.Tables.{Table, find, headOf?, tableOf, tableInRange}
-use Rattle.document.specs.Sound.{rules, soundBytes}
+use Rattle.document.specs.Tables.{Table, find, headOf?, tableOf}
+use Rattle.document.specs.Sound.{soundBytes}
 use Rattle.document.specs.Messages.{messageBytes, pushFrom}
 use Rattle.document.specs.Outcomes.{refused, done, judged}
 use Rattle.document.specs.Calls.{pushIn}
-use Rattle.table.specs.Ranges.{nodes-at, range-nodes}
+use Rattle.views.specs.Sounds.{sound-table}
 use Rattle.pushes.specs.Writing.{Held}
 
 -- the replica is held by a sound table, and the node is another one of the cluster
@@ -67,8 +67,5 @@ none-held (some r) e = let z : _≡_ {A = ℕ} 0 1 = cc in absurd (omega arith)
 
 -- a node of the cluster is at most 8
 pub node-small : (l : List ℕ) (node : ℕ) → soundBytes l ≡ true → isNode (tableOf l .nodes) node ≡ true → node ≤ 8
-unfolding soundBytes
 node-small l node s e =
-    let range = and-true (tableInRange l) (rules (tableOf l)) s .0 in
-    let most = leb-true node (tableOf l .nodes) (and-true (leb 1 node) _ e .1) in
-    omega (arith, range-nodes l range, nodes-at l)
+    omega (arith, node-most (tableOf l .nodes) node e, size-most (tableOf l .nodes) (sound-table l s .size))

@@ -20,19 +20,20 @@ use Rattle.document.specs.Sound.{soundBytes}
 use Rattle.document.specs.Steps.{tooMany, pastEnd}
 use Rattle.document.specs.Messages.{Push, readPush, messageOf}
 use Rattle.document.specs.Receive.{received, odd, ackFor}
-use Rattle.document.specs.Outcomes.{Outcome, refused, done, judged, numberOf, tableAfter, outputAfter}
+use Rattle.document.specs.Outcomes.{Outcome, refused, done, judged, numberOf, tableAfter, outputAfter, all-passed}
 use Rattle.document.specs.Calls.{when, isNow, ifPush, takeIn, receiveIn, receive}
+use Rattle.document.specs.Reading.{own-at}
 use Rattle.pushes.specs.Judging.{isPush}
 use Rattle.pushes.specs.Reading.{read-push}
 use Rattle.judge.specs.Judging.{counted}
-use Rattle.steps.specs.Standing.{stands, own-at}
+use Rattle.steps.specs.Standing.{stands}
 use Rattle.steps.specs.Grown.{Grown}
-use Rattle.steps.specs.States.{Made}
+use Rattle.steps.specs.States.{Made, made-past, made-within}
 use Rattle.merge.specs.Keeping.{stepped, received-stepped, many-stepped}
 use Rattle.merge.specs.Merging.{Merges}
 use Rattle.answers.specs.declared.Answer.{Answer}
 use Rattle.answers.specs.Answers.{answerOf, is-sound}
-use Rattle.changes.specs.Finishing.{Ends, ended, skip, stop, pass, not-made, made}
+use Rattle.changes.specs.Finishing.{Ends, ended, skip, stop}
 use Rattle.changes.specs.Killing.{not-now, is-now}
 
 -- ---- the copy: 16, 17, and the table
@@ -54,7 +55,7 @@ module _ {l c m : List ℕ} {now : ℕ} (k : Merges l c m now) {b : Bool} {c' : 
   t = tableOf l
 
   pub merge-full : b ≡ false → mergedIn now t p ≡ refused 16
-  merge-full e = stop 16 (tooMany (received now p t)) _ _ (many-stepped now p t ∙ not-made w e)
+  merge-full e = stop 16 (tooMany (received now p t)) _ _ (many-stepped now p t ∙ made-past w e)
 
   pub merge-ends : b ≡ true → (b ≡ true → Grown t (tableOf c')) → Ends l c'
   merge-ends e g = record { sound = k .sound; copy = stands (w .bytes e); grown = g e }
@@ -63,7 +64,7 @@ module _ {l c m : List ℕ} {now : ℕ} (k : Merges l c m now) {b : Bool} {c' : 
   merge-last e =
       ap (ended 16 t) (w .bytes e .table)
       ∙ ap (λ (u : Table). judged (when 17 (pastEnd u) ∷ []) (done 16 u [])) (sym (received-stepped now p t))
-      ∙ sym (skip 16 (tooMany (received now p t)) _ _ (many-stepped now p t ∙ made w e))
+      ∙ sym (skip 16 (tooMany (received now p t)) _ _ (many-stepped now p t ∙ made-within w e))
 
 -- ---- with the acknowledgement
 
@@ -240,7 +241,7 @@ module _ (now : ℕ) (m : List ℕ) (space : ℕ) (t : Table) where
   unfolding receiveIn
   receive-rest e h =
       skip 2 (not (isNow now)) _ _ (is-now now e) ∙ skip 3 (ltb space 16) _ _ (le-ltb space 16 h)
-      ∙ pass (ifPush (readPush (t .nodes) m) (takeIn now t))
+      ∙ all-passed (ifPush (readPush (t .nodes) m) (takeIn now t))
 
 module _ (l : List ℕ) (now : ℕ) (m : List ℕ) (space : ℕ) (s : soundBytes l ≡ true) where
   here : receive l now m space ≡ receiveIn now m space (tableOf l)

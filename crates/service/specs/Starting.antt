@@ -6,13 +6,11 @@ use mathlib.Core.List.{List, [], _∷_, _++_, append-assoc, append-nil}
 use Prim.Native.Nat.{ℕ, zero, suc, _+_, _-_, _≤_, _<_}
 use native.Mathlib.Numerals.{add-one}
 use native.Mathlib.Omega.{arith}
-use lib.Dec.{eqb, leb}
+use lib.Dec.{eqb}
 use lib.ListN.{length, drop, getD, set, length-append, drop-of-length-le}
 use lib.Seq.{drop-cons, set-at}
-use borrow.Author.Tests.{leb-true}
 use Rattle.codec.specs.Bytes.{splice, zeros}
-use Rattle.codec.specs.Laws.{splice-splice}
-use Rattle.codec.specs.Lists.{and-true}
+use Rattle.codec.specs.Laws.{splice-splice, length-zeros, zeros-add, drop-zeros}
 use Rattle.numbers.specs.Nodes.{isSize, isNode}
 use Rattle.records.specs.declared.head.Head.{Head}
 use Rattle.records.specs.Heads.{rootHead}
@@ -24,7 +22,6 @@ use Rattle.slots.specs.Listings.{listedBytes}
 use Rattle.document.specs.Tables.{fresh, rows, padded, tableBytes}
 use Rattle.document.specs.Outcomes.{refused, done, judged}
 use Rattle.document.specs.Calls.{start}
-use Rattle.steps.specs.Writes.{length-zeros, zeros-add, zeros-rest}
 
 -- ---- zeros, written one by one
 
@@ -57,7 +54,7 @@ filled h r e k p q f m n =
     let none : length e ≡ 0 = ap length n in
     let free : k - (0 + length (h ++ r)) ≡ (p - length r) + (q - length e) = omega arith in
     ap (λ (z : List ℕ). (h ++ r) ++ z)
-    (zeros-rest k (0 + length (h ++ r)) (omega arith) ∙ ap zeros free ∙ zeros-add (p - length r) (q - length e))
+    (drop-zeros k (0 + length (h ++ r)) ∙ ap zeros free ∙ zeros-add (p - length r) (q - length e))
     ∙ append-assoc h r _
     ∙ ap (λ (z : List ℕ). h ++ z) (sym (append-assoc r (zeros (p - length r)) (zeros (q - length e))))
     ∙ ap (λ (z : List ℕ). h ++ (padded p r ++ (z ++ zeros (q - length e)))) (sym n)
@@ -94,12 +91,6 @@ fresh-bytes l node n h e p =
     (omega (arith, length-tableHeaderBytes header)) (omega arith) no-row
 
 -- ---- the numbers that pass, and the refusals
-
-pub size-most : (n : ℕ) → isSize n ≡ true → n ≤ 8
-size-most n e = leb-true n 8 (and-true (leb 1 n) _ e .1)
-
-pub node-most : (n i : ℕ) → isNode n i ≡ true → i ≤ n
-node-most n i e = leb-true i n (and-true (leb 1 i) _ e .1)
 
 module _ (l : List ℕ) (node n : ℕ) where
   pub start-1 : eqb (length l) 13344 ≡ false → start l node n ≡ refused 1

@@ -1,5 +1,6 @@
 // List: the live entries of a live directory, in slot order, as entry records.
 use answers::Answer;
+use changes::look;
 use records::Entry;
 use records::Head;
 use table::find;
@@ -127,13 +128,7 @@ pub fn list(table: &[u8], id: u64, out: &mut [u8]) -> Answer
             value: 0,
         };
     }
-    if 4294967295 < id {
-        return Answer {
-            number: 6,
-            value: 0,
-        };
-    }
-    let found = find::replica(table, find::replicas_used(table), id as u32);
+    let found = look::slot_of(table, id);
     let Found::At(s) = found else {
         return Answer {
             number: 6,

@@ -1,9 +1,9 @@
 // Push: what a pending node has to be told of a held replica, as one message.
 use answers::Answer;
+use changes::look;
 use numbers::nodes;
 use pushes::write;
 use slots::Replica;
-use table::find;
 use table::find::Found;
 ghost use lib.ListN.{length};
 ghost use Rattle.document.specs.Tables.{tableOf};
@@ -61,13 +61,7 @@ pub fn push(table: &[u8], id: u64, node: u64, out: &mut [u8]) -> Answer
             value: 0,
         };
     }
-    if 4294967295 < id {
-        return Answer {
-            number: 6,
-            value: 0,
-        };
-    }
-    let found = find::replica(table, find::replicas_used(table), id as u32);
+    let found = look::slot_of(table, id);
     let Found::At(s) = found else {
         return Answer {
             number: 6,

@@ -6,15 +6,15 @@ use mathlib.Core.Option.{some, none}
 use mathlib.Core.List.{List, [], _∷_}
 use Prim.Native.Nat.{ℕ, zero, suc, _+_, _≤_, _<_}
 use native.Mathlib.Omega.{arith}
-use lib.Dec.{eqb, ltb}
+use lib.Dec.{eqb}
 use borrow.Author.Tests.{eqb-true, eqb-false}
-use Rattle.codec.specs.Lists.{and-true}
 use Rattle.records.specs.declared.head.Head.{Head}
 use Rattle.slots.specs.declared.replica.Replica.{Replica}
 use Rattle.slots.specs.declared.listed.Listed.{Listed}
 use Rattle.document.specs.Tables.{Table, first, hasId, find, slotsFrom}
 use Rattle.document.specs.Sound.{sameKey}
 use Rattle.document.specs.Steps.{putHead, put, renewed, newer, joinInto, joined}
+use Rattle.views.specs.Joins.{newer-directory}
 use Rattle.steps.specs.Standing.{Each, end, more}
 use Rattle.steps.specs.Putting.{newReplica}
 
@@ -91,13 +91,6 @@ each-join e ys = everything (joinInto e ys)
     everything : (xs : List Listed) → Each Anything xs
     everything [] = end
     everything (x ∷ xs) = more {x = x} refl (everything xs)
-
-pub newer-directory : (e y : Listed) → sameKey e y ≡ true → newer e y .directory ≡ y .directory
-newer-directory e y k = go (ltb (y .entry .stamp) (e .entry .stamp))
-  where
-    go : (b : Bool) → cond b e y .directory ≡ y .directory
-    go true = sym (eqb-true _ _ (and-true (eqb (y .directory) (e .directory)) _ k .0))
-    go false = refl
 
 grows-join : (e : Listed) (xs ys : List Listed) → Grows SameDirectory Anything xs ys → Grows SameDirectory Anything xs (joinInto e ys)
 unfolding joinInto

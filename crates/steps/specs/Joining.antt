@@ -15,16 +15,17 @@ use Rattle.codec.specs.Lists.{and-true, and-stop, and-go}
 use Rattle.slots.specs.declared.listed.Listed.{Listed}
 use Rattle.records.specs.declared.entry.Entry.{Entry}
 use Rattle.slots.specs.Listings.{listedBytes, ListedFit}
-use Rattle.document.specs.Tables.{Table, first, findEntry, entryOf?, entryOf, entriesOf, slotsFrom, withEntries, tableBytes, tableOf, entrySlot, entryIn, entriesUsed}
+use Rattle.document.specs.Tables.{Table, findEntry, entryOf?, entryOf, entriesOf, slotsFrom, withEntries, tableBytes, tableOf, entrySlot, entryIn, entriesUsed}
 use Rattle.document.specs.Sound.{sameKey}
 use Rattle.document.specs.Steps.{newer, joinInto, joined, atOdds, oddJoin}
+use Rattle.document.specs.Reading.{few-replicas, few-entries}
 use Rattle.table.specs.declared.find.Found.{Found}
 use Rattle.table.specs.declared.find.Found.the-variants.{At, Nothing}
 use Rattle.table.specs.Slots.{firstSlot, firstEntry, entriesIn, entries-count, found-slot, no-slot}
 use Rattle.steps.specs.declared.join.Joined.{Joined}
 use Rattle.steps.specs.declared.join.Joined.the-variants.{Added, Replaced, Same, AtOdds}
-use Rattle.steps.specs.Standing.{Each, end, more, Wide, Is, Stands, wide-of, wide-is, entries-held, few-entries, replicas-held, few-replicas}
-use Rattle.steps.specs.Writes.{entry-rewritten, listed-added}
+use Rattle.steps.specs.Standing.{Each, end, more, Wide, Is, Stands, wide-of, wide-is, entries-held, replicas-held}
+use Rattle.steps.specs.Writes.{entry-rewritten, listed-added, into-none, into-found}
 
 -- what an entry comes to that meets the one in slot s
 abbrev pub meets : Listed → Listed → ℕ → Joined
@@ -70,38 +71,13 @@ hasRoom x t = isListed (entryOf t (x .directory) (x .entry .child) (x .entry .na
 
 pub join-none : (x : Listed) (es : List Listed) → findEntry (x .directory) (x .entry .child) (x .entry .name) es ≡ none →
     joinInto x es ≡ es ++ (x ∷ [])
-unfolding joinInto first
-join-none x [] e = refl
-join-none x (y ∷ ys) e = go (sameKey x y) e (join-none x ys)
-  where
-    go : (b : Bool) → cond b (some y) (first (sameKey x) ys) ≡ none →
-        (first (sameKey x) ys ≡ none → joinInto x ys ≡ ys ++ (x ∷ [])) →
-        cond b (newer x y ∷ ys) (y ∷ joinInto x ys) ≡ y ∷ (ys ++ (x ∷ []))
-    go true q ih = let z : _≡_ {A = ℕ} 0 1 = cc in absurd (omega arith)
-    go false q ih = ap (λ (z : List Listed). y ∷ z) (ih q)
+unfolding joinInto
+join-none x = into-none (sameKey x) (newer x) x (joinInto x) refl (λ y ys. refl)
 
 pub join-found : (x : Listed) (g : ℕ → Listed) (s n i : ℕ) → firstSlot (λ (k : ℕ). sameKey x (g k)) s n ≡ At i →
     joinInto x (slotsFrom g s n) ≡ set (slotsFrom g s n) (i - s) (newer x (g i))
-unfolding joinInto firstSlot slotsFrom
-join-found x g s zero i e = let z : _≡_ {A = ℕ} 0 1 = cc in absurd (omega arith)
-join-found x g s (suc n) i e =
-    go (sameKey x (g s)) e (λ f. found-slot (sameKey x) g (suc s) n i f .0) (join-found x g (suc s) n i)
-  where
-    go : (b : Bool) → cond b (At s) (firstSlot (λ (k : ℕ). sameKey x (g k)) (suc s) n) ≡ At i →
-        (firstSlot (λ (k : ℕ). sameKey x (g k)) (suc s) n ≡ At i → suc s ≤ i) →
-        (firstSlot (λ (k : ℕ). sameKey x (g k)) (suc s) n ≡ At i →
-        joinInto x (slotsFrom g (suc s) n) ≡ set (slotsFrom g (suc s) n) (i - suc s) (newer x (g i))) →
-        cond b (newer x (g s) ∷ slotsFrom g (suc s) n) (g s ∷ joinInto x (slotsFrom g (suc s) n))
-        ≡ set (g s ∷ slotsFrom g (suc s) n) (i - s) (newer x (g i))
-    go true f low ih =
-        let same : s ≡ i = cc in
-        ap (λ (k : ℕ). newer x (g k) ∷ slotsFrom g (suc s) n) same
-        ∙ ap (λ (k : ℕ). set (g s ∷ slotsFrom g (suc s) n) k (newer x (g i))) {x = 0} {y = i - s} (omega arith)
-    go false f low ih =
-        let least = low f in
-        ap (λ (r : List Listed). g s ∷ r) (ih f)
-        ∙ ap (λ (k : ℕ). set (g s ∷ slotsFrom g (suc s) n) k (newer x (g i))) {x = suc (i - suc s)} {y = i - s}
-        (omega arith)
+unfolding joinInto
+join-found x = into-found (sameKey x) (newer x) x (joinInto x) refl (λ y ys. refl)
 
 -- a slot that is set to what it has
 pub set-same : {A : Type 0} (g : ℕ → A) (s n i : ℕ) → s ≤ i → set (slotsFrom g s n) (i - s) (g i) ≡ slotsFrom g s n

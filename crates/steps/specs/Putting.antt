@@ -1,9 +1,9 @@
 -- A head that is put: whether there is a slot for it, and what its bytes make of the table. Assumes nothing.
 use mathlib.Core.Path.{_≡_, refl, ap, sym, _∙_}
 use mathlib.Core.Bool.{Bool, true, false, _||_, cond}
-use mathlib.Core.Option.{Option, some, none}
+use mathlib.Core.Option.{Option, none}
 use mathlib.Core.List.{List, [], _∷_, _++_}
-use Prim.Native.Nat.{ℕ, _+_, _≤_, _<_}
+use Prim.Native.Nat.{ℕ, _+_, _-_, _≤_, _<_}
 use native.Mathlib.Omega.{arith}
 use native.Mathlib.Nat.{sub-zero}
 use lib.Dec.{eqb, ltb}
@@ -14,13 +14,14 @@ use Rattle.records.specs.declared.head.Head.{Head}
 use Rattle.records.specs.Heads.{headBytes, HeadFit}
 use Rattle.slots.specs.declared.replica.Replica.{Replica}
 use Rattle.slots.specs.Replicas.{replicaBytes, ReplicaFit}
-use Rattle.document.specs.Tables.{Table, first, hasId, find, headOf?, headOf, slotsFrom, withReplicas, tableBytes, tableOf, replicaSlot, replicaIn, replicasUsed}
+use Rattle.document.specs.Tables.{Table, hasId, find, headOf?, headOf, slotsFrom, withReplicas, tableBytes, tableOf, replicaSlot, replicaIn, replicasUsed}
 use Rattle.document.specs.Sound.{isHeld}
 use Rattle.document.specs.Steps.{putHead, put, renewed}
+use Rattle.document.specs.Reading.{few-replicas}
 use Rattle.table.specs.declared.find.Found.the-variants.{At, Nothing}
-use Rattle.table.specs.Slots.{firstReplica, found-slot, no-slot}
-use Rattle.steps.specs.Standing.{Each, end, more, Wide, Is, Stands, wide-of, wide-is, replicas-held, few-replicas}
-use Rattle.steps.specs.Writes.{head-rewritten, replica-added, put-found}
+use Rattle.table.specs.Slots.{firstReplica, found-slot, no-slot, firstSlot}
+use Rattle.steps.specs.Standing.{Each, end, more, Wide, Is, Stands, wide-of, wide-is, replicas-held}
+use Rattle.steps.specs.Writes.{head-rewritten, replica-added, into-none, into-found}
 
 -- there is a slot for the replica with that id: its own, or a free one
 abbrev pub hasSlot : ℕ → Table → Bool
@@ -33,15 +34,13 @@ newReplica h = record { head = h; version = 0; pending = 0 }
 -- ---- the list
 
 pub put-none : (h : Head) (rs : List Replica) → find (h .id) rs ≡ none → putHead h rs ≡ rs ++ (newReplica h ∷ [])
-unfolding putHead first
-put-none h [] e = refl
-put-none h (r ∷ rs) e = go (hasId (h .id) r) e (put-none h rs)
-  where
-    go : (b : Bool) → cond b (some r) (find (h .id) rs) ≡ none →
-        (find (h .id) rs ≡ none → putHead h rs ≡ rs ++ (newReplica h ∷ [])) →
-        cond b (renewed h r ∷ rs) (r ∷ putHead h rs) ≡ r ∷ (rs ++ (newReplica h ∷ []))
-    go true q ih = let z : _≡_ {A = ℕ} 0 1 = cc in absurd (omega arith)
-    go false q ih = ap (λ (z : List Replica). r ∷ z) (ih q)
+unfolding putHead
+put-none h = into-none (hasId (h .id)) (renewed h) (newReplica h) (putHead h) refl (λ r rs. refl)
+
+pub put-found : (h : Head) (g : ℕ → Replica) (s n i : ℕ) → firstSlot (λ (k : ℕ). hasId (h .id) (g k)) s n ≡ At i →
+    putHead h (slotsFrom g s n) ≡ set (slotsFrom g s n) (i - s) (renewed h (g i))
+unfolding putHead
+put-found h = into-found (hasId (h .id)) (renewed h) (newReplica h) (putHead h) refl (λ r rs. refl)
 
 -- every replica fits its fields
 pub put-fits : (h : Head) (rs : List Replica) → HeadFit h → Each ReplicaFit rs → Each ReplicaFit (putHead h rs)

@@ -6,7 +6,6 @@ use mathlib.Core.Option.{Option, some, none}
 use mathlib.Core.List.{List, [], _∷_}
 use Prim.Native.Nat.{ℕ, suc, _+_, _≤_, _<_}
 use native.Mathlib.Omega.{arith}
-use native.Mathlib.Nat.{add-zero}
 use lib.Dec.{eqb, ltb}
 use lib.ListN.{length, length-append}
 use borrow.Author.Tests.{eqb-true, eq-eqb, lt-ltb, le-ltb, ltb-true, ltb-false, leb-true, le-leb}
@@ -16,9 +15,12 @@ use Rattle.slots.specs.declared.replica.Replica.{Replica}
 use Rattle.slots.specs.declared.listed.Listed.{Listed}
 use Rattle.document.specs.Tables.{Table, first, hasId, find, headOf?, entryOf?, entriesOf}
 use Rattle.document.specs.Sound.{isHeld, notCrowded, sameKey}
-use Rattle.document.specs.Steps.{putHead, put, renewed, newer, joinInto, joined, settle, settleAll, raised, unchanged, tooMany}
+use Rattle.document.specs.Steps.{putHead, put, renewed, joined, settle, settleAll, raised, unchanged, tooMany}
 use Rattle.views.specs.Settles.{settle-length}
-use Rattle.steps.specs.Standing.{Each, end, more, never}
+use Rattle.views.specs.Joins.{extra, join-size, oneMore, crowd-join}
+use Rattle.views.specs.Puts.{put-length-held, head-member}
+use Rattle.views.specs.Sounds.{Sound}
+use Rattle.steps.specs.Standing.{Each, end, more, never, each-in}
 use Rattle.steps.specs.Putting.{hasSlot, newReplica, put-none}
 use Rattle.steps.specs.Joining.{isRoom, isListed, hasRoom}
 
@@ -76,6 +78,16 @@ not-room t n = go (tooMany t) refl
     go true e = refl
     go false e = absurd (n (room-of t e))
 
+-- a sound table is within them
+pub sound-room : (t : Table) → Sound t → Room t
+sound-room t s =
+    record {
+      few-replicas = s .few-replicas;
+      few-entries = s .few-entries;
+      crowds = each-in _ (t .replicas)
+          (λ r i. s .not-crowded (r .head .id) (r .head) (head-member (t .replicas) (s .ids-unique) r i));
+    }
+
 pub each-map : {A : Type 0} (P Q : A → Type 0) → ((x : A) → P x → Q x) → (xs : List A) → Each P xs → Each Q xs
 each-map P Q f [] end = end
 each-map P Q f (x ∷ xs) (more p ps) = more {x = x} (f x p) (each-map P Q f xs ps)
@@ -91,80 +103,7 @@ each-found P id (x ∷ xs) r (more p ps) e = go (hasId id x) refl e (each-found 
     go true q f ih = let same : x ≡ r = cc in subst (λ (z : Replica). P z × (z .head .id ≡ id)) same (p, eqb-true _ _ q)
     go false q f ih = ih f
 
--- ---- a join only adds
-
--- how many more there are
-abbrev extra : Option Listed → ℕ
-extra none = 1
-extra (some y) = 0
-
-join-size : (x : Listed) (es : List Listed) → length (joinInto x es) ≡ length es + extra (first (sameKey x) es)
-unfolding joinInto first
-join-size x [] = refl
-join-size x (y ∷ ys) = go (sameKey x y) (join-size x ys)
-  where
-    go : (b : Bool) → length (joinInto x ys) ≡ length ys + extra (first (sameKey x) ys) →
-        length (cond b (newer x y ∷ ys) (y ∷ joinInto x ys)) ≡ suc (length ys) + extra (cond b (some y) (first (sameKey x) ys))
-    go true h = omega arith
-    go false h = omega (arith, h)
-
--- the two have one directory
-key-directory : (x y : Listed) → sameKey x y ≡ true → y .directory ≡ x .directory
-key-directory x y e = eqb-true _ _ (and-true (eqb (y .directory) (x .directory)) _ e .0)
-
--- the newer of two in one directory
-newer-directory : (x y : Listed) → y .directory ≡ x .directory → newer x y .directory ≡ y .directory
-newer-directory x y e = go (ltb (y .entry .stamp) (x .entry .stamp))
-  where
-    go : (b : Bool) → cond b x y .directory ≡ y .directory
-    go true = sym e
-    go false = refl
-
--- where the key stands, every directory has as many entries as before
-crowd-head : (x y : Listed) (d : ℕ) (ys : List Listed) → x .directory ≡ y .directory →
-    length (entriesOf d (x ∷ ys)) ≡ length (entriesOf d (y ∷ ys))
-unfolding entriesOf
-crowd-head x y d ys e = go (eqb (x .directory) d) (eqb (y .directory) d) (ap (λ (z : ℕ). eqb z d) e)
-  where
-    go : (a b : Bool) → a ≡ b →
-        length (cond a (x .entry ∷ entriesOf d ys) (entriesOf d ys)) ≡ length (cond b (y .entry ∷ entriesOf d ys) (entriesOf d ys))
-    go true true q = refl
-    go true false q = never (sym q)
-    go false true q = never q
-    go false false q = refl
-
-crowd-next : (y : Listed) (d : ℕ) (old new : List Listed) → (n : ℕ) → length (entriesOf d new) ≡ length (entriesOf d old) + n →
-    length (entriesOf d (y ∷ new)) ≡ length (entriesOf d (y ∷ old)) + n
-unfolding entriesOf
-crowd-next y d old new n e = go (eqb (y .directory) d)
-  where
-    go : (a : Bool) →
-        length (cond a (y .entry ∷ entriesOf d new) (entriesOf d new)) ≡ length (cond a (y .entry ∷ entriesOf d old) (entriesOf d old)) + n
-    go true = omega (arith, e)
-    go false = e
-
--- how many more a directory has
-abbrev oneMore : Listed → Option Listed → ℕ → ℕ
-oneMore x none d = cond (eqb (x .directory) d) 1 0
-oneMore x (some y) d = 0
-
-pub crowd-join : (x : Listed) (es : List Listed) (d : ℕ) →
-    length (entriesOf d (joinInto x es)) ≡ length (entriesOf d es) + oneMore x (first (sameKey x) es) d
-unfolding joinInto first entriesOf
-crowd-join x [] d = alone (eqb (x .directory) d) refl
-  where
-    alone : (b : Bool) → eqb (x .directory) d ≡ b → length (entriesOf d (x ∷ [])) ≡ length (entriesOf d []) + cond b 1 0
-    alone true q = simp q
-    alone false q = simp q
-crowd-join x (y ∷ ys) d = go (sameKey x y) refl (crowd-join x ys d)
-  where
-    go : (b : Bool) → sameKey x y ≡ b → length (entriesOf d (joinInto x ys)) ≡ length (entriesOf d ys) + oneMore x (first (sameKey x) ys) d →
-        length (entriesOf d (cond b (newer x y ∷ ys) (y ∷ joinInto x ys)))
-        ≡ length (entriesOf d (y ∷ ys)) + oneMore x (cond b (some y) (first (sameKey x) ys)) d
-    go true q ih = crowd-head (newer x y) y d ys (newer-directory x y (key-directory x y q)) ∙ sym (add-zero _)
-    go false q ih = crowd-next y d ys (joinInto x ys) _ ih
-
--- ---- so what is past a limit stays past it
+-- ---- a join only adds, so what is past a limit stays past it
 
 pub many-joined : (x : Listed) (t : Table) → tooMany t ≡ true → tooMany (joined x t) ≡ true
 many-joined x t e = not-room (joined x t) (λ k. never (sym (of-room t (back k)) ∙ e))
@@ -257,17 +196,6 @@ put-size h (r ∷ rs) = go (eqb (r .head .id) (h .id)) (put-size h rs)
     go true p = omega arith
     go false p = omega arith
 
--- in place
-put-same : (h : Head) (rs : List Replica) (r : Replica) → find (h .id) rs ≡ some r → length (putHead h rs) ≡ length rs
-unfolding putHead first
-put-same h [] r e = let z : _≡_ {A = ℕ} 0 1 = cc in absurd (omega arith)
-put-same h (x ∷ xs) r e = go (hasId (h .id) x) e (put-same h xs r)
-  where
-    go : (b : Bool) → cond b (some x) (find (h .id) xs) ≡ some r → (find (h .id) xs ≡ some r → length (putHead h xs) ≡ length xs) →
-        length (cond b (renewed h x ∷ xs) (x ∷ putHead h xs)) ≡ suc (length xs)
-    go true q ih = refl
-    go false q ih = ap suc (ih q)
-
 put-each : (P : ℕ → Type 0) (h : Head) (rs : List Replica) → P (h .id) → Each (λ (r : Replica). P (r .head .id)) rs →
     Each (λ (r : Replica). P (r .head .id)) (putHead h rs)
 unfolding putHead
@@ -290,7 +218,7 @@ module _ (h : Head) (t : Table) where
     where
       few : (o : Option Replica) → find (h .id) (t .replicas) ≡ o → (isHeld (headOf? o) || ltb (length (t .replicas)) 64) ≡ true →
           length (putHead h (t .replicas)) ≤ 64
-      few (some r) e s = omega (arith, k .few-replicas, put-same h (t .replicas) r e)
+      few (some r) e s = omega (arith, k .few-replicas, put-length-held h (t .replicas) r e)
       few none e s =
           omega (
             arith,

@@ -10,9 +10,9 @@ use native.Mathlib.Nat.{add-zero, sub-zero}
 use lib.Dec.{eqb, ltb}
 use lib.ListN.{length, set, getD, length-set}
 use borrow.Author.Tests.{lt-ltb, le-ltb, ltb-true}
-use Rattle.codec.specs.Bytes.{chunk, splice, u32At, sameBytes, bytesOf, Bytes}
+use Rattle.codec.specs.Bytes.{chunk, splice, u32At, sameBytes, Bytes}
 use Rattle.codec.specs.Laws.{first-chunk, same-eq, same-refl}
-use Rattle.codec.specs.Lists.{every, and-true, and-go, and-stop}
+use Rattle.codec.specs.Lists.{every, and-true, and-go, and-stop, both-ways}
 use Rattle.numbers.specs.Nodes.{without}
 use Rattle.records.specs.declared.head.Head.{Head}
 use Rattle.records.specs.declared.entry.Entry.{Entry}
@@ -23,15 +23,17 @@ use Rattle.records.specs.Entries.{entryBytes, EntryFit, entry-round}
 use Rattle.slots.specs.declared.replica.Replica.{Replica}
 use Rattle.slots.specs.declared.listed.Listed.{Listed}
 use Rattle.slots.specs.Replicas.{replicaBytes, ReplicaFit}
-use Rattle.slots.specs.Listings.{listedBytes, ListedFit}
+use Rattle.slots.specs.Listings.{ListedFit}
 use Rattle.document.specs.Tables.{Table, find, headOf?, headOf, entriesOf, slotsFrom, everySlot, withReplicas, tableBytes, tableOf, replicaSlot, entrySlot, replicaIn, entryIn, replicasUsed, entriesUsed}
 use Rattle.document.specs.Sound.{idsUnique}
 use Rattle.document.specs.Steps.{sameHead, sameEntry, sameEntries, unchanged, raised, settleAll, settle}
+use Rattle.document.specs.Layouts.{replica-head, listed-entry}
+use Rattle.document.specs.Reading.{few-replicas, few-entries}
 use Rattle.views.specs.Lists.{In}
 use Rattle.views.specs.Puts.{find-member}
-use Rattle.views.specs.Settles.{settled, settled-head, settled-kept, settled-raised, same-head, head-same, same-entry, entries-same}
+use Rattle.views.specs.Settles.{settled, settled-head, settled-kept, settled-raised, same-head, head-same, same-entry, entry-same}
 use Rattle.table.specs.Slots.{id-at, directory-at}
-use Rattle.steps.specs.Standing.{Each, end, more, Is, Stands, wide-of, wide-is, stands, never, replicas-held, entries-held, few-replicas, few-entries, replica-bytes, listed-bytes}
+use Rattle.steps.specs.Standing.{Each, end, more, Is, Stands, wide-of, wide-is, stands, never, replicas-held, entries-held, replica-bytes, listed-bytes}
 use Rattle.steps.specs.Joining.{set-same}
 use Rattle.steps.specs.Writes.{slot-rewritten}
 use Rattle.steps.specs.Grown.{Grown, Grows, rest, next, Slots, grows-slots, each-slots, first-or, SameId, NotIn, SameDirectory, Anything}
@@ -63,15 +65,6 @@ pub record Compares (old t : List ℕ) (m k n i : ℕ) : Type 0 where
 
 -- ---- records that are compared by their bytes
 
-both-ways : (a b : Bool) → (a ≡ true → b ≡ true) → (b ≡ true → a ≡ true) → a ≡ b
-both-ways true b f g = sym (f refl)
-both-ways false true f g = g refl
-both-ways false false f g = refl
-
-same-entry-refl : (e : Entry) → sameEntry e e ≡ true
-unfolding sameEntries
-same-entry-refl e = and-true (sameEntry e e) _ (entries-same (e ∷ []) (e ∷ []) refl) .0
-
 head-test : (a b : Head) → HeadFit a → HeadFit b → sameBytes (headBytes a) (headBytes b) ≡ sameHead b (some a)
 head-test a b f g =
     both-ways (sameBytes (headBytes a) (headBytes b)) (sameHead b (some a))
@@ -86,7 +79,7 @@ entry-test : (a b : Entry) → EntryFit a → EntryFit b → sameBytes (entryByt
 entry-test a b f g =
     both-ways (sameBytes (entryBytes a) (entryBytes b)) (sameEntry a b)
     (λ e.
-    ap (sameEntry a) (sym (sym (entry-round a f) ∙ ap entryRead (same-eq _ _ e) ∙ entry-round b g)) ∙ same-entry-refl a)
+    ap (sameEntry a) (sym (sym (entry-round a f) ∙ ap entryRead (same-eq _ _ e) ∙ entry-round b g)) ∙ entry-same a)
     (λ e. ap (λ (z : Entry). sameBytes (entryBytes z) (entryBytes b)) (same-entry a b e) ∙ same-refl (entryBytes b))
 
 -- two parts, compared where they stand
@@ -101,24 +94,16 @@ raised-is {r} {q} {own} {o} {p} e f g =
     ∙ ap (raised own) e
 
 -- where they stand in a slot
-head-front : (r : Replica) → chunk (replicaBytes r) 0 40 ≡ headBytes (r .head)
-unfolding replicaBytes headBytes bytesOf chunk
-head-front r = refl
-
-entry-front : (x : Listed) → chunk (listedBytes x) 0 32 ≡ entryBytes (x .entry)
-unfolding listedBytes entryBytes bytesOf chunk
-entry-front x = refl
-
 module _ {l : List ℕ} (k : Stands l) where
   head-bytes : (i : ℕ) → i < replicasUsed l → chunk l (replicaSlot i) 40 ≡ headBytes (replicaIn l i .head)
   head-bytes i h =
       sym (first-chunk l (replicaSlot i) 48 40 (omega arith)) ∙ ap (λ (c : List ℕ). chunk c 0 40) (replica-bytes k i h)
-      ∙ head-front (replicaIn l i)
+      ∙ replica-head (replicaIn l i)
 
   entry-bytes : (i : ℕ) → i < entriesUsed l → chunk l (entrySlot i) 32 ≡ entryBytes (entryIn l i .entry)
   entry-bytes i h =
       sym (first-chunk l (entrySlot i) 40 32 (omega arith)) ∙ ap (λ (c : List ℕ). chunk c 0 32) (listed-bytes k i h)
-      ∙ entry-front (entryIn l i)
+      ∙ listed-entry (entryIn l i)
 
   replica-fits : Bytes l → (i : ℕ) → i < replicasUsed l → ReplicaFit (replicaIn l i)
   unfolding tableOf

@@ -3,14 +3,14 @@
 use mathlib.Core.Path.{_≡_, refl, ap, sym, subst, _∙_}
 use mathlib.Core.Bool.{Bool, true, false}
 use mathlib.Core.Option.{some, none}
-use mathlib.Core.List.{List, [], _∷_, _++_}
+use mathlib.Core.List.{List, [], _∷_, _++_, List·Memᴰ·head, List·Memᴰ·tail}
 use Prim.Native.Nat.{ℕ, zero, suc, _+_, _*_, _^_, _≤_, _<_}
 use native.Mathlib.Omega.{arith}
 use lib.Dec.{eqb}
 use lib.ListN.{length, drop}
 use borrow.Author.Tests.{eqb-true, eqb-false}
-use Rattle.codec.specs.Bytes.{chunk, le, u8At, u32At, Bytes}
-use Rattle.codec.specs.Laws.{u32-bytes, u64-halves, length-chunk, getD-chunk}
+use Rattle.codec.specs.Bytes.{chunk, le, Bytes}
+use Rattle.codec.specs.Laws.{u64-halves, length-chunk, u32-below}
 use Rattle.codec.specs.Lists.{and-true}
 use Rattle.records.specs.Heads.{HeadFit, headAt, head-fields}
 use Rattle.records.specs.Entries.{EntryFit, entry-fields}
@@ -19,10 +19,11 @@ use Rattle.slots.specs.TableHeaders.{TableHeaderFit, tableHeaderOf, table-round
 use Rattle.slots.specs.Replicas.{ReplicaFit, replicaBytes, replicaOf, replica-round, replica-fields}
 use Rattle.slots.specs.Listings.{ListedFit, listedBytes, listedOf, listed-round, listed-fields}
 use Rattle.document.specs.Tables.{Table, hasId, find, headOf?, headOf, headerOf, rows, slotsFrom, tableBytes, tableOf, tableInRange, replicaSlot, entrySlot, replicaIn, entryIn, replicasUsed, entriesUsed}
-use Rattle.document.specs.Rows.{Layout, row-slot, other-rows, used-le, length-slots}
+use Rattle.document.specs.Rows.{Layout, row-slot, other-rows, length-slots}
 use Rattle.document.specs.Layouts.{replicaLayout, listedLayout}
-use Rattle.document.specs.Reading.{parts-ext, header-at, replicas-at, entries-at, replicas-used, entries-used, length-tableBytes, bytes-of-table}
+use Rattle.document.specs.Reading.{parts-ext, header-at, replicas-at, entries-at, replicas-used, entries-used, length-tableBytes, bytes-of-table, few-replicas, few-entries}
 use Rattle.document.specs.Sound.{soundBytes}
+use Rattle.views.specs.Lists.{In}
 use Rattle.table.specs.Ranges.{range-length}
 use Rattle.table.specs.declared.find.Found.the-variants.{At, Nothing}
 use Rattle.table.specs.Slots.{firstReplica, found-slot, no-slot}
@@ -31,6 +32,10 @@ use Rattle.table.specs.Slots.{firstReplica, found-slot, no-slot}
 pub data Each {A : Type 0} (P : A → Type 0) : List A → Type 0 where
   end : Each P []
   more : {x : A} {xs : List A} → P x → Each P xs → Each P (x ∷ xs)
+
+pub each-in : {A : Type 0} (P : A → Type 0) (xs : List A) → ((x : A) → In x xs → P x) → Each P xs
+each-in P [] f = end
+each-in P (x ∷ xs) f = more {x = x} (f x (List·Memᴰ·head refl)) (each-in P xs (λ y i. f y (List·Memᴰ·tail i)))
 
 pub each-slot : {A : Type 0} (P : A → Type 0) (g : ℕ → A) (s n : ℕ) → ((i : ℕ) → i < s + n → P (g i)) → Each P (slotsFrom g s n)
 unfolding slotsFrom
@@ -71,9 +76,6 @@ wide-read t w =
     (w .entries) (entries-at t (w .few-replicas)))
 
 -- ---- what is read from bytes fits its fields
-
-u32-below : (l : List ℕ) (o : ℕ) → Bytes l → u32At l o < 2 ^ 32
-u32-below l o b = omega (arith, u32-bytes l o, b o, b (o + 1), b (o + 2), b (o + 3))
 
 u64-below : (l : List ℕ) (o : ℕ) → Bytes l → o + 8 ≤ length l → le (chunk l o 8) < 2 ^ 64
 u64-below l o b h = omega (arith, u64-halves l o h, u32-below l o b, u32-below l (o + 4) b)
@@ -116,8 +118,8 @@ module _ (l : List ℕ) (b : Bytes l) where
   pub wide-of : length l ≡ 13344 → Wide (tableOf l)
   unfolding tableOf
   wide-of size =
-      let few : replicasUsed l ≤ 64 = used-le (replicaLayout 0 (omega arith)) l 32 64 in
-      let most : entriesUsed l ≤ 256 = used-le (listedLayout 0 (omega arith)) l 3104 256 in
+      let few : replicasUsed l ≤ 64 = few-replicas l in
+      let most : entriesUsed l ≤ 256 = few-entries l in
       record {
         header = header-below (omega arith);
         few-replicas = omega (arith, length-slots (replicaIn l) 0 (replicasUsed l));
@@ -193,17 +195,6 @@ replicas-held l = length-slots (replicaIn l) 0 (replicasUsed l)
 pub entries-held : (l : List ℕ) → length (tableOf l .entries) ≡ entriesUsed l
 unfolding tableOf
 entries-held l = length-slots (entryIn l) 0 (entriesUsed l)
-
-pub few-replicas : (l : List ℕ) → replicasUsed l ≤ 64
-few-replicas l = used-le (replicaLayout 0 (omega arith)) l 32 64
-
-pub few-entries : (l : List ℕ) → entriesUsed l ≤ 256
-few-entries l = used-le (listedLayout 0 (omega arith)) l 3104 256
-
--- whose table it is
-pub own-at : (l : List ℕ) → u8At l 2 ≡ tableOf l .own
-unfolding tableOf tableHeaderOf
-own-at l = sym (getD-chunk l 0 32 2 (omega arith))
 
 module _ {l : List ℕ} (k : Stands l) where
   pub replica-bytes : (i : ℕ) → i < replicasUsed l → chunk l (replicaSlot i) 48 ≡ replicaBytes (replicaIn l i)

@@ -3,7 +3,7 @@ use mathlib.Core.Path.{_≡_, refl, ap, sym, subst, _∙_}
 use mathlib.Core.Logic.{_⊎_, inl, inr}
 use mathlib.Core.Bool.{Bool, true, false, not, cond}
 use mathlib.Core.Option.{Option, some, none}
-use mathlib.Core.List.{List, [], _∷_}
+use mathlib.Core.List.{List, [], _∷_, List·Memᴰ·head}
 use Prim.Native.Nat.{ℕ, _+_, _^_, _≤_, _<_}
 use native.Mathlib.Omega.{arith}
 use lib.ListN.{length}
@@ -11,21 +11,23 @@ use Rattle.codec.specs.Bytes.{splice, Bytes}
 use Rattle.numbers.specs.declared.clock.Ticked.{Ticked}
 use Rattle.numbers.specs.Clocks.{ticked}
 use Rattle.records.specs.declared.head.Head.{Head}
+use Rattle.records.specs.declared.entry.Entry.{Entry}
 use Rattle.slots.specs.declared.replica.Replica.{Replica}
 use Rattle.slots.specs.declared.listed.Listed.{Listed}
 use Rattle.slots.specs.declared.table_header.TableHeader.{TableHeader}
 use Rattle.slots.specs.TableHeaders.{tableHeaderBytes, tableHeaderAt, TableHeaderFit}
 use Rattle.slots.specs.Replicas.{ReplicaFit}
 use Rattle.slots.specs.Listings.{ListedFit}
-use Rattle.document.specs.Tables.{Table, find, headOf, headerOf, withHighest, withNext, tableOf}
+use Rattle.document.specs.Tables.{Table, find, headOf, headerOf, withHighest, withNext, tableOf, entriesOf}
 use Rattle.document.specs.Steps.{put, joined, joinAll, setBy, placeEntry, strike, samePlace, issue, stampAt, clockAt, tooMany}
-use Rattle.views.specs.Lists.{same?}
-use Rattle.views.specs.Puts.{putOn, find-put-same, find-put-other}
+use Rattle.views.specs.Lists.{same?, In, not-none}
+use Rattle.views.specs.Puts.{putOn, find-put-same, find-put-other, head-found}
+use Rattle.views.specs.Joins.{entries-in}
 use Rattle.steps.specs.Standing.{Each, Is, Stands, stands, moved, wide-of, wide-is, never}
 use Rattle.steps.specs.Writes.{header-rewritten}
 use Rattle.steps.specs.Putting.{hasSlot}
 use Rattle.steps.specs.Joining.{hasRoom}
-use Rattle.steps.specs.Room.{Room, crowd, room-of, room-put, room-joined, many-put, many-joined}
+use Rattle.steps.specs.Room.{Room, crowd, room-of, room-put, room-joined, many-put, many-joined, each-found}
 
 -- the head put, and its entries set
 abbrev pub stated : Head → Table → Table
@@ -61,6 +63,32 @@ header-written {l} k b u p q f =
 
 abbrev pub Held : Table → ℕ → Type 0
 Held t d = (r : Replica) × (find d (t .replicas) ≡ some r)
+
+-- by its head
+pub held-head : (t : Table) (d : ℕ) (h : Head) → headOf t d ≡ some h → Held t d
+held-head t d h e = let p = head-found (find d (t .replicas)) h e in (p .0, p .1)
+
+-- each entry's directory is held
+abbrev pub Housed : Table → Type 0
+Housed t = (x : Listed) → In x (t .entries) → Held t (x .directory)
+
+-- then a directory that is not held has no entries, and no directory has too many
+pub crowd-most : (t : Table) → Room t → Housed t → (d : ℕ) → crowd t d ≤ 32
+crowd-most t k h d = go (find d (t .replicas)) refl
+  where
+    empty : (es : List Entry) → ((e : Entry) → In e es → ⊥) → length es ≤ 32
+    empty [] f = omega arith
+    empty (e ∷ es) f = absurd (f e (List·Memᴰ·head refl))
+
+    go : (o : Option Replica) → find d (t .replicas) ≡ o → crowd t d ≤ 32
+    go (some r) e =
+        let p = each-found (λ (r : Replica). crowd t (r .head .id) ≤ 32) d (t .replicas) r (k .crowds) e in
+        subst (λ (i : ℕ). crowd t i ≤ 32) (p .1) (p .0)
+    go none e =
+        empty (entriesOf d (t .entries)) (λ x i.
+        let y = entries-in d (t .entries) x i in
+        let r = h (y .0) (y .1) in
+        not-none (sym e ∙ ap (λ (i : ℕ). find i (t .replicas)) (sym (y .2)) ∙ r .1))
 
 pub record Places (l : List ℕ) (h old : Head) : Type 0 where
   pub stands : Stands l
@@ -125,6 +153,13 @@ module _ (h old : Head) (t : Table) (k : Room t) (p : Held t (h .directory)) (q 
 pub record Made (r : Bool) (l : List ℕ) (u : Table) : Type 0 where
   pub room : r ≡ not (tooMany u)
   pub bytes : r ≡ true → Is l u
+
+-- past the limits, or within them
+pub made-past : {l : List ℕ} {r : Bool} {u : Table} → Made r l u → r ≡ false → tooMany u ≡ true
+made-past {l} {r} {u} m e = not-swap r (tooMany u) (m .room) ∙ ap not e
+
+pub made-within : {l : List ℕ} {r : Bool} {u : Table} → Made r l u → r ≡ true → tooMany u ≡ false
+made-within {l} {r} {u} m e = not-swap r (tooMany u) (m .room) ∙ ap not e
 
 -- both joins, as the code makes them
 module _ (h old : Head) {l : List ℕ} (k : Places l h old) where

@@ -2,14 +2,15 @@
 -- Each law says which table's bytes they then are. Assumes nothing.
 use mathlib.Core.Path.{_≡_, refl, ap, sym, _∙_}
 use mathlib.Core.Bool.{Bool, true, false, cond}
+use mathlib.Core.Option.{Option, some, none}
 use mathlib.Core.List.{List, [], _∷_, _++_, append-assoc, append-nil}
 use Prim.Native.Nat.{ℕ, zero, suc, _+_, _*_, _-_, _≤_, _<_}
-use native.Mathlib.Nat.{add-assoc, add-zero, zero-add, suc-add, mul-zero, mul-suc, mul-le-mul-left}
+use native.Mathlib.Nat.{add-assoc, add-zero, zero-add, mul-zero, mul-suc, mul-le-mul-left}
 use native.Mathlib.Omega.{arith}
 use lib.ListN.{length, take, drop, set, length-append, length-set, take-append-drop}
 use lib.Seq.{take-append-le, drop-append-le, take-append-add, drop-append-add, drop-at, drop-drop, length-take-le}
 use Rattle.codec.specs.Bytes.{chunk, splice, bytesOf, zeros}
-use Rattle.codec.specs.Laws.{length-chunk, length-splice}
+use Rattle.codec.specs.Laws.{length-chunk, length-splice, drop-zeros}
 use Rattle.records.specs.declared.head.Head.{Head}
 use Rattle.records.specs.Heads.{headBytes, length-headBytes}
 use Rattle.slots.specs.declared.replica.Replica.{Replica}
@@ -18,29 +19,13 @@ use Rattle.slots.specs.TableHeaders.{tableHeaderBytes, length-tableHeaderBytes}
 use Rattle.slots.specs.Replicas.{replicaBytes, length-replicaBytes}
 use Rattle.slots.specs.Listings.{listedBytes}
 use Rattle.document.specs.Layouts.{replicaLayout, listedLayout}
-use Rattle.document.specs.Steps.{renewed, putHead}
-use Rattle.document.specs.Tables.{Table, hasId, slotsFrom, withReplicas, withEntries, headerOf, rows, padded, tableBytes, replicaSlot, entrySlot, replicasUsed, entriesUsed, replicaIn, tableOf}
+use Rattle.document.specs.Steps.{renewed}
+use Rattle.document.specs.Tables.{Table, slotsFrom, withReplicas, withEntries, headerOf, rows, padded, tableBytes, replicaSlot, entrySlot, replicasUsed, entriesUsed, replicaIn, tableOf, first}
 use Rattle.document.specs.Rows.{Layout, length-rows, length-padded}
+use Rattle.document.specs.Reading.{few-replicas}
 use Rattle.table.specs.declared.find.Found.the-variants.{At}
 use Rattle.table.specs.Slots.{firstSlot, found-slot}
-use Rattle.steps.specs.Standing.{Stands, replicas-held, entries-held, few-replicas, replica-bytes}
-
--- ---- zeros: how many, in two parts, and without the first n
-
-pub length-zeros : (n : ℕ) → length (zeros n) ≡ n
-length-zeros zero = refl
-length-zeros (suc n) = ap suc (length-zeros n)
-
-pub zeros-add : (m n : ℕ) → zeros (m + n) ≡ zeros m ++ zeros n
-zeros-add zero n = ap zeros (zero-add n)
-zeros-add (suc m) n = rw suc-add (ap (λ (l : List ℕ). 0 ∷ l) (zeros-add m n))
-
-pub zeros-rest : (k n : ℕ) → n ≤ k → drop n (zeros k) ≡ zeros (k - n)
-zeros-rest k n h =
-    let split : k ≡ n + (k - n) = omega arith in
-    ap (λ (m : ℕ). drop n (zeros m)) split
-    ∙ ap (drop n) (zeros-add n (k - n))
-    ∙ drop-at (zeros n) (zeros (k - n)) n (length-zeros n)
+use Rattle.steps.specs.Standing.{Stands, replicas-held, entries-held, replica-bytes}
 
 -- ---- a splice of a string in two parts: in the first, and in the second
 
@@ -140,7 +125,7 @@ padded-add L n xs x h =
     let free : k - (0 + length v) ≡ w * n - length (rows (L .bytes) (xs ++ (x ∷ []))) = omega arith in
     ap (λ (o : ℕ). splice (r ++ zeros k) o v) (sym (add-zero (w * length xs)))
     ∙ splice-right r (zeros k) (w * length xs) 0 v (length-rows L xs)
-    ∙ ap (λ (z : List ℕ). r ++ (v ++ z)) (zeros-rest k (0 + length v) (omega arith) ∙ ap zeros free)
+    ∙ ap (λ (z : List ℕ). r ++ (v ++ z)) (drop-zeros k (0 + length v) ∙ ap zeros free)
     ∙ sym (append-assoc r v _)
     ∙ ap (λ (z : List ℕ). z ++ zeros (w * n - length (rows (L .bytes) (xs ++ (x ∷ []))))) (sym (rows-add L xs x))
 
@@ -276,27 +261,42 @@ module _ {l : List ℕ} (k : Stands l) where
       ∙ part-rewritten i 0 (headBytes g) (renewed g (replicaIn l i)) h (omega (arith, length-headBytes g))
       (head-part (replicaIn l i) g)
 
--- ---- a head put where its id was found
+-- ---- a list in which the first element that passes is changed, or which gets one more where none passes
 
-pub put-found : (h : Head) (g : ℕ → Replica) (s n i : ℕ) → firstSlot (λ (k : ℕ). hasId (h .id) (g k)) s n ≡ At i →
-    putHead h (slotsFrom g s n) ≡ set (slotsFrom g s n) (i - s) (renewed h (g i))
-unfolding putHead firstSlot slotsFrom
-put-found h g s zero i e = let z : _≡_ {A = ℕ} 0 1 = cc in absurd (omega arith)
-put-found h g s (suc n) i e =
-    go (hasId (h .id) (g s)) e (λ f. found-slot (hasId (h .id)) g (suc s) n i f .0) (put-found h g (suc s) n i)
-  where
-    go : (b : Bool) → cond b (At s) (firstSlot (λ (k : ℕ). hasId (h .id) (g k)) (suc s) n) ≡ At i →
-        (firstSlot (λ (k : ℕ). hasId (h .id) (g k)) (suc s) n ≡ At i → suc s ≤ i) →
-        (firstSlot (λ (k : ℕ). hasId (h .id) (g k)) (suc s) n ≡ At i →
-        putHead h (slotsFrom g (suc s) n) ≡ set (slotsFrom g (suc s) n) (i - suc s) (renewed h (g i))) →
-        cond b (renewed h (g s) ∷ slotsFrom g (suc s) n) (g s ∷ putHead h (slotsFrom g (suc s) n))
-        ≡ set (g s ∷ slotsFrom g (suc s) n) (i - s) (renewed h (g i))
-    go true f low ih =
-        let same : s ≡ i = cc in
-        ap (λ (k : ℕ). renewed h (g k) ∷ slotsFrom g (suc s) n) same
-        ∙ ap (λ (k : ℕ). set (g s ∷ slotsFrom g (suc s) n) k (renewed h (g i))) {x = 0} {y = i - s} (omega arith)
-    go false f low ih =
-        let least = low f in
-        ap (λ (r : List Replica). g s ∷ r) (ih f)
-        ∙ ap (λ (k : ℕ). set (g s ∷ slotsFrom g (suc s) n) k (renewed h (g i))) {x = suc (i - suc s)} {y = i - s}
-        (omega arith)
+module _ {A : Type 0} (test : A → Bool) (change : A → A) (new : A) (into : List A → List A) (last : into [] ≡ new ∷ [])
+    (step : (y : A) (ys : List A) → into (y ∷ ys) ≡ cond (test y) (change y ∷ ys) (y ∷ into ys)) where
+  pub into-none : (xs : List A) → first test xs ≡ none → into xs ≡ xs ++ (new ∷ [])
+  unfolding first
+  into-none [] e = last
+  into-none (y ∷ ys) e = step y ys ∙ go (test y) e (into-none ys)
+    where
+      go : (b : Bool) → _≡_ {A = Option A} (cond b (some y) (first test ys)) none →
+          (first test ys ≡ none → into ys ≡ ys ++ (new ∷ [])) →
+          cond b (change y ∷ ys) (y ∷ into ys) ≡ y ∷ (ys ++ (new ∷ []))
+      go true q ih = let z : _≡_ {A = ℕ} 0 1 = cc in absurd (omega arith)
+      go false q ih = ap (λ (z : List A). y ∷ z) (ih q)
+
+  -- where they are slots, and one was found
+  pub into-found : (g : ℕ → A) (s n i : ℕ) → firstSlot (λ (k : ℕ). test (g k)) s n ≡ At i →
+      into (slotsFrom g s n) ≡ set (slotsFrom g s n) (i - s) (change (g i))
+  unfolding firstSlot slotsFrom
+  into-found g s zero i e = let z : _≡_ {A = ℕ} 0 1 = cc in absurd (omega arith)
+  into-found g s (suc n) i e =
+      step (g s) (slotsFrom g (suc s) n)
+      ∙ go (test (g s)) e (λ f. found-slot test g (suc s) n i f .0) (into-found g (suc s) n i)
+    where
+      go : (b : Bool) → cond b (At s) (firstSlot (λ (k : ℕ). test (g k)) (suc s) n) ≡ At i →
+          (firstSlot (λ (k : ℕ). test (g k)) (suc s) n ≡ At i → suc s ≤ i) →
+          (firstSlot (λ (k : ℕ). test (g k)) (suc s) n ≡ At i →
+          into (slotsFrom g (suc s) n) ≡ set (slotsFrom g (suc s) n) (i - suc s) (change (g i))) →
+          cond b (change (g s) ∷ slotsFrom g (suc s) n) (g s ∷ into (slotsFrom g (suc s) n))
+          ≡ set (g s ∷ slotsFrom g (suc s) n) (i - s) (change (g i))
+      go true f low ih =
+          let same : s ≡ i = cc in
+          ap (λ (k : ℕ). change (g k) ∷ slotsFrom g (suc s) n) same
+          ∙ ap (λ (k : ℕ). set (g s ∷ slotsFrom g (suc s) n) k (change (g i))) {x = 0} {y = i - s} (omega arith)
+      go false f low ih =
+          let least = low f in
+          ap (λ (r : List A). g s ∷ r) (ih f)
+          ∙ ap (λ (k : ℕ). set (g s ∷ slotsFrom g (suc s) n) k (change (g i))) {x = suc (i - suc s)} {y = i - s}
+          (omega arith)

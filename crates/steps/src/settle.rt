@@ -10,7 +10,7 @@ ghost use mathlib.Core.Bool.{true};
 ghost use Prim.Native.Nat.{_≤_, _<_, _^_};
 ghost use lib.Dec.{ltb};
 ghost use lib.ListN.{length, set};
-ghost use Rattle.document.specs.Tables.{everySlot, replicaIn, replicasUsed, tableOf, withReplicas};
+ghost use Rattle.document.specs.Tables.{everySlot, replicaIn, tableOf, withReplicas};
 ghost use Rattle.document.specs.Steps.{settle, unchanged};
 ghost use Rattle.views.specs.Settles.{settled};
 ghost use Rattle.steps.specs.Standing.{Is};

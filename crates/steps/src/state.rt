@@ -15,7 +15,7 @@ ghost use mathlib.Core.Option.{none, some};
 ghost use Prim.Native.Nat.{_+_, _≤_, _<_, _^_};
 ghost use Rattle.numbers.specs.Ids.{idOf};
 ghost use Rattle.document.specs.Tables.{headOf, tableOf, withHighest, withNext};
-ghost use Rattle.document.specs.Steps.{clockAt, joinAll, placeEntry, samePlace, setBy, stampAt, strike};
+ghost use Rattle.document.specs.Steps.{clockAt, joinAll, placeEntry, samePlace, setBy, stampAt, strike, withHolders};
 ghost use Rattle.steps.specs.Standing.{Is, Stands};
 ghost use Rattle.steps.specs.States.{Made, Places, Ready, stated};
 
@@ -89,6 +89,23 @@ pub fn strike(h: Head, old: Head) -> Listed
     Listed {
         entry,
         directory: old.directory,
+    }
+}
+
+// The head with other holders.
+pub fn with_holders(h: Head, holders: u8) -> Head
+    ensures { λ r. ⌜ r ≡ withHolders h holders ⌝ }
+{
+    let name = h.name;
+    Head {
+        kind: h.kind,
+        live: h.live,
+        id: h.id,
+        stamp: h.stamp,
+        holders,
+        depth: h.depth,
+        directory: h.directory,
+        name,
     }
 }
 

@@ -1,3 +1,5 @@
+pub mod Counts
+pub mod Hints
 pub mod Ranges
 pub mod Rules
 pub mod Slots

@@ -1,7 +1,7 @@
 -- The rules of a sound table over slots: what the contracts of `table::rules` cite, and the laws that carry them to the
 -- lists of `document`. Assumes nothing.
 use mathlib.Core.Path.{_≡_, refl, ap, sym, _∙_}
-use mathlib.Core.Bool.{Bool, _&&_, _||_, not}
+use mathlib.Core.Bool.{Bool, _&&_, _||_, not, and-comm, and-assoc}
 use mathlib.Core.Option.{Option, some, none}
 use mathlib.Core.List.{List}
 use Prim.Native.Nat.{ℕ, zero, suc, _+_, _-_, _<_}
@@ -63,6 +63,12 @@ keyNew l k s = newSlot sameKey (entryIn l) k s
 abbrev pub keysNew : List ℕ → ℕ → Bool
 keysNew l k = everySlot (keyNew l k) 0 k
 
+-- each of k entries and of m replicas keeps what it has to keep
+abbrev pub slotsKeep : List ℕ → ℕ → ℕ → Bool
+slotsKeep l m k =
+    everySlot (λ (s : ℕ). entryKeeps (tableAt l m k) (entryIn l s)) 0 k
+    && everySlot (λ (s : ℕ). replicaKeeps (tableAt l m k) (replicaIn l s)) 0 m
+
 -- ---- laws: what was found, and what is the same
 
 pub held-at : (l : List ℕ) (m id i : ℕ) → firstReplica l m id ≡ At i → (i < m) × (heldIn l m id ≡ some (headAt l (replicaSlot i)))
@@ -100,18 +106,19 @@ distinct-slots same g s (suc n) =
 
 -- ---- laws: the judgements, over what the code has read
 
-pub replica-tests : (l : List ℕ) (m k s : ℕ) (d : TableHeader) (r : Replica) → d ≡ tableHeaderAt l 0 → r ≡ replicaIn l s →
+pub replica-tests : (l : List ℕ) (m k s : ℕ) (d : TableHeader) (r : Replica) (n : ℕ) → d ≡ tableHeaderAt l 0 → r ≡ replicaIn l s →
+    n ≡ entriesIn l k (replicaIn l s .head .id) →
     replicaKeeps (tableAt l m k) (replicaIn l s)
     ≡ ((makerHolds (r .head) && has (r .head .holders) (d .own))
     && (isPartOf (r .pending) (without (r .head .holders) (d .own))
     && ((not (eqb (maker (r .head .id)) (d .own)) || ltb (count (r .head .id)) (d .next))
     && ((isRootId (r .head) || heldAnd (isPlaceOf (r .head)) (heldIn l m (r .head .directory)))
-    && (leb (entriesIn l k (r .head .id)) 32
+    && (leb n 32
     && ((not (isLive (r .head))
     || (isRootId (r .head) || shows (r .head) (listedIn l k (r .head .directory) (r .head .id) (r .head .name))))
     && leb (clockOf (r .head .stamp)) (d .highest)))))))
 unfolding replicaKeeps
-replica-tests l m k s d r p q = rw (p, q, ← entries-count l (replicaIn l s .head .id) 0 k)
+replica-tests l m k s d r n p q e = rw (p, q, e, ← entries-count l (replicaIn l s .head .id) 0 k)
 
 pub entry-tests : (l : List ℕ) (m k s : ℕ) (d : TableHeader) (x : Listed) → d ≡ tableHeaderAt l 0 → x ≡ entryIn l s →
     entryKeeps (tableAt l m k) (entryIn l s)
@@ -130,15 +137,20 @@ all-new : {A : Type 0} (same : A → A → Bool) (g : ℕ → A) (n : ℕ) →
     distinct same (slotsFrom g 0 n) ≡ everySlot (newSlot same g n) 0 n
 all-new same g n = distinct-slots same g 0 n ∙ ap (λ (e : ℕ). everySlot (newSlot same g e) 0 n) (zero-add n)
 
+-- the order of tests does not matter
+turned : (a b c : Bool) → (a && (b && c)) ≡ (c && (b && a))
+turned a b c = and-comm a (b && c) ∙ ap (λ (x : Bool). x && a) (and-comm b c) ∙ and-assoc c b a
+
 pub rule-tests : (l : List ℕ) (m k : ℕ) →
     rules (tableAt l m k)
     ≡ ((ltb 0 m && isRoot (tableHeaderOf (chunk l 0 32) .nodes) (replicaIn l 0 .head))
     && (idsNew l m
-    && (everySlot (λ (s : ℕ). replicaKeeps (tableAt l m k) (replicaIn l s)) 0 m
-    && (everySlot (λ (s : ℕ). entryKeeps (tableAt l m k) (entryIn l s)) 0 k && keysNew l k))))
+    && (keysNew l k && slotsKeep l m k)))
 unfolding rules
 rule-tests l m k =
     cc (
+      turned (everySlot (λ (s : ℕ). replicaKeeps (tableAt l m k) (replicaIn l s)) 0 m)
+          (everySlot (λ (s : ℕ). entryKeeps (tableAt l m k) (entryIn l s)) 0 k) (keysNew l k),
       root-slots (tableHeaderOf (chunk l 0 32) .nodes) (replicaIn l) m,
       all-new sameId (replicaIn l) m,
       every-slots (replicaKeeps (tableAt l m k)) (replicaIn l) 0 m,

@@ -3,7 +3,9 @@
 //
 // A function below the judgement asks that the slice is as long as a table and that the slots it
 // is given are slots; the judgement itself asks nothing.
+mod counts;
 pub mod find;
+mod hints;
 mod range;
 mod rules;
 

@@ -1,7 +1,11 @@
 // The rules of a sound table beyond the ranges, in the order of document 01. Each function judges one
-// sentence for one slot, or for all slots; a slot is read as a struct by value.
+// sentence for one slot, or for all slots; a slot is read as a struct by value. But for the two
+// sentences that say what is unique, each is judged by one pass: a slot that one slot names by an id or
+// a key is found by hints, and entries are counted for all directories at once.
+use crate::counts;
 use crate::find;
 use crate::find::Found;
+use crate::hints;
 use numbers::ids;
 use numbers::nodes;
 use records::Entry;
@@ -10,7 +14,7 @@ use slots::Listed;
 use slots::Replica;
 use slots::TableHeader;
 ghost use mathlib.Core.Path.{_≡_};
-ghost use mathlib.Core.Bool.{_&&_, _||_, not};
+ghost use mathlib.Core.Bool.{true, _&&_, _||_, not};
 ghost use Prim.Native.Nat.{ℕ, _+_, _≤_, _<_};
 ghost use lib.Dec.{eqb, leb, ltb};
 ghost use lib.ListN.{length};
@@ -20,7 +24,8 @@ ghost use Rattle.numbers.specs.Ids.{maker, count};
 ghost use Rattle.records.specs.Heads.{isRoot};
 ghost use Rattle.document.specs.Tables.{everySlot, replicaIn, entryIn};
 ghost use Rattle.document.specs.Sound.{isRootId, isLive, isPlaceOf, heldAnd, isParent, shows, makerHolds, isPartOf, replicaKeeps, entryKeeps, rules};
-ghost use Rattle.table.specs.Rules.{tableAt, heldIn, listedIn, idNew, keyNew, idsNew, keysNew};
+ghost use Rattle.table.specs.Rules.{tableAt, heldIn, listedIn, idNew, keyNew, idsNew, keysNew, slotsKeep};
+ghost use Rattle.table.specs.Counts.{entriesUnder, Counted};
 
 // Whether holders include the maker and the own node; the root has no maker.
 fn holders_include(h: Head, own: u8) -> bool
@@ -55,14 +60,14 @@ fn own_below_next(id: u32, own: u8, next: u32) -> bool
 
 // Whether a replica's place directory is held, is a directory, is one less deep, and live if the
 // replica is; the root has no place.
-fn place_held(t: &[u8], m: usize, h: Head) -> bool
-    requires { ⌜ (13344 ≤ length (now t)) × (m ≤ 64) ⌝ }
+fn place_held(t: &[u8], m: usize, index: &[u8; 256], h: Head) -> bool
+    requires { ⌜ (13344 ≤ length (now t)) × (m ≤ 64) × (idsNew (now t) m ≡ true) ⌝ }
     ensures { λ r. ⌜ r ≡ (isRootId h || heldAnd (isPlaceOf h) (heldIn (now (t .entry)) m (h .directory))) ⌝ }
 {
     if h.id == 0 {
         return true;
     }
-    let found = find::replica(t, m, h.directory);
+    let found = hints::replica(t, m, index, h.directory);
     let Found::At(p) = found else {
         return false;
     };
@@ -86,9 +91,9 @@ fn is_place_of(p: Head, h: Head) -> bool
 }
 
 // Whether a live replica but the root has an entry at its place with a stamp not below its own, and
-// live if equal.
-fn place_shown(t: &[u8], k: usize, h: Head) -> bool
-    requires { ⌜ (13344 ≤ length (now t)) × (k ≤ 256) ⌝ }
+// live if equal. The hint is the slot to look at first for that entry.
+fn place_shown(t: &[u8], k: usize, hint: u8, h: Head) -> bool
+    requires { ⌜ (13344 ≤ length (now t)) × (k ≤ 256) × (keysNew (now t) k ≡ true) ⌝ }
     ensures { λ r. ⌜ r ≡ (not (isLive h) || (isRootId h || shows h (listedIn (now (t .entry)) k (h .directory) (h .id) (h .name)))) ⌝ }
 {
     if h.live != 1 {
@@ -98,7 +103,7 @@ fn place_shown(t: &[u8], k: usize, h: Head) -> bool
         return true;
     }
     let name = h.name;
-    let found = find::entry(t, k, h.directory, h.id, name);
+    let found = hints::entry(t, k, hint, h.directory, h.id, name);
     let Found::At(e) = found else {
         return false;
     };
@@ -118,9 +123,19 @@ fn is_shown_by(e: Entry, stamp: u64) -> bool
     e.live == 1
 }
 
-// Whether the replica in slot s keeps all that a replica has to keep.
-fn replica_keeps(t: &[u8], m: usize, k: usize, s: usize) -> bool
-    requires { ⌜ (13344 ≤ length (now t)) × (m ≤ 64) × (k ≤ 256) × (s < m) ⌝ }
+// Whether the replica in slot s, in which as many entries are listed as count says, keeps all that a
+// replica has to keep.
+fn replica_keeps(
+    t: &[u8],
+    m: usize,
+    k: usize,
+    s: usize,
+    index: &[u8; 256],
+    count: u16,
+    hint: u8,
+) -> bool
+    requires { ⌜ (13344 ≤ length (now t)) × (m ≤ 64) × (k ≤ 256) × (s < m) × (idsNew (now t) m ≡ true)
+        × (keysNew (now t) k ≡ true) × (count ≡ entriesUnder (now t) k s) ⌝ }
     ensures { λ r. ⌜ r ≡ replicaKeeps (tableAt (now (t .entry)) m k) (replicaIn (now (t .entry)) s) ⌝ }
 {
     let header = TableHeader::read(t, 0);
@@ -135,26 +150,34 @@ fn replica_keeps(t: &[u8], m: usize, k: usize, s: usize) -> bool
     if !own_below_next(h.id, header.own, header.next) {
         return false;
     }
-    if !place_held(t, m, h) {
+    if !place_held(t, m, index, h) {
         return false;
     }
-    if 32 < find::entries_in(t, k, h.id) {
+    if 32 < count {
         return false;
     }
-    if !place_shown(t, k, h) {
+    if !place_shown(t, k, hint, h) {
         return false;
     }
     ids::clock_of(h.stamp) <= header.highest
 }
 
 // Whether each of m replicas keeps it.
-fn replicas_keep(t: &[u8], m: usize, k: usize) -> bool
-    requires { ⌜ (13344 ≤ length (now t)) × (m ≤ 64) × (k ≤ 256) ⌝ }
+fn replicas_keep(
+    t: &[u8],
+    m: usize,
+    k: usize,
+    index: &[u8; 256],
+    counts: &[u16; 64],
+    places: &[u8; 64],
+) -> bool
+    requires { ⌜ (13344 ≤ length (now t)) × (m ≤ 64) × (k ≤ 256) × (idsNew (now t) m ≡ true)
+        × (keysNew (now t) k ≡ true) × Counted (now t) m k (now counts) ⌝ }
     ensures { λ r. ⌜ r ≡ everySlot (λ (s : ℕ). replicaKeeps (tableAt (now (t .entry)) m k) (replicaIn (now (t .entry)) s)) 0 m ⌝ }
 {
     let mut i = 0;
     while i < m {
-        if !replica_keeps(t, m, k, i) {
+        if !replica_keeps(t, m, k, i, index, counts[i], places[i]) {
             return false;
         }
         i += 1;
@@ -163,11 +186,11 @@ fn replicas_keep(t: &[u8], m: usize, k: usize) -> bool
 }
 
 // Whether a directory is held, is a directory and less than 16 deep.
-fn is_parent(t: &[u8], m: usize, directory: u32) -> bool
-    requires { ⌜ (13344 ≤ length (now t)) × (m ≤ 64) ⌝ }
+fn is_parent(t: &[u8], m: usize, index: &[u8; 256], directory: u32) -> bool
+    requires { ⌜ (13344 ≤ length (now t)) × (m ≤ 64) × (idsNew (now t) m ≡ true) ⌝ }
     ensures { λ r. ⌜ r ≡ heldAnd isParent (heldIn (now (t .entry)) m directory) ⌝ }
 {
-    let found = find::replica(t, m, directory);
+    let found = hints::replica(t, m, index, directory);
     let Found::At(p) = found else {
         return false;
     };
@@ -179,14 +202,14 @@ fn is_parent(t: &[u8], m: usize, directory: u32) -> bool
 }
 
 // Whether the entry in slot s keeps all that an entry has to keep.
-fn entry_keeps(t: &[u8], m: usize, k: usize, s: usize) -> bool
-    requires { ⌜ (13344 ≤ length (now t)) × (m ≤ 64) × (k ≤ 256) × (s < k) ⌝ }
+fn entry_keeps(t: &[u8], m: usize, k: usize, s: usize, index: &[u8; 256]) -> bool
+    requires { ⌜ (13344 ≤ length (now t)) × (m ≤ 64) × (k ≤ 256) × (s < k) × (idsNew (now t) m ≡ true) ⌝ }
     ensures { λ r. ⌜ r ≡ entryKeeps (tableAt (now (t .entry)) m k) (entryIn (now (t .entry)) s) ⌝ }
 {
     let header = TableHeader::read(t, 0);
     let x = Listed::read(t, 3104 + 40 * s);
     let e = x.entry;
-    if !is_parent(t, m, x.directory) {
+    if !is_parent(t, m, index, x.directory) {
         return false;
     }
     if e.child == 0 {
@@ -196,13 +219,13 @@ fn entry_keeps(t: &[u8], m: usize, k: usize, s: usize) -> bool
 }
 
 // Whether each of k entries keeps it.
-fn entries_keep(t: &[u8], m: usize, k: usize) -> bool
-    requires { ⌜ (13344 ≤ length (now t)) × (m ≤ 64) × (k ≤ 256) ⌝ }
+fn entries_keep(t: &[u8], m: usize, k: usize, index: &[u8; 256]) -> bool
+    requires { ⌜ (13344 ≤ length (now t)) × (m ≤ 64) × (k ≤ 256) × (idsNew (now t) m ≡ true) ⌝ }
     ensures { λ r. ⌜ r ≡ everySlot (λ (s : ℕ). entryKeeps (tableAt (now (t .entry)) m k) (entryIn (now (t .entry)) s)) 0 k ⌝ }
 {
     let mut i = 0;
     while i < k {
-        if !entry_keeps(t, m, k, i) {
+        if !entry_keeps(t, m, k, i, index) {
             return false;
         }
         i += 1;
@@ -286,7 +309,24 @@ fn root_first(t: &[u8], m: usize) -> bool
     Head::read(t, 32).is_root(n)
 }
 
-// Whether m replicas and k entries keep every rule.
+// Whether each of k entries and each of m replicas keeps what it has to keep. Entries come first: where
+// all their directories are held, no count has to pass the slots to find one.
+fn slots_keep(t: &[u8], m: usize, k: usize) -> bool
+    requires { ⌜ (13344 ≤ length (now t)) × (m ≤ 64) × (k ≤ 256) × (idsNew (now t) m ≡ true)
+        × (keysNew (now t) k ≡ true) ⌝ }
+    ensures { λ r. ⌜ r ≡ slotsKeep (now (t .entry)) m k ⌝ }
+{
+    let index = hints::index_of(t, m);
+    if !entries_keep(t, m, k, &index) {
+        return false;
+    }
+    let counts = counts::of_entries(t, m, k, &index);
+    let places = hints::places_of(t, m, k, &index);
+    replicas_keep(t, m, k, &index, &counts, &places)
+}
+
+// Whether m replicas and k entries keep every rule. Ids and keys come first: what is looked up after
+// that relies on their being unique.
 pub fn keeps(t: &[u8], m: usize, k: usize) -> bool
     requires { ⌜ (13344 ≤ length (now t)) × (m ≤ 64) × (k ≤ 256) × (u8At (now t) 3 ≤ 8) ⌝ }
     ensures { λ r. ⌜ r ≡ rules (tableAt (now (t .entry)) m k) ⌝ }
@@ -297,11 +337,8 @@ pub fn keeps(t: &[u8], m: usize, k: usize) -> bool
     if !ids_unique(t, m) {
         return false;
     }
-    if !replicas_keep(t, m, k) {
+    if !keys_unique(t, k) {
         return false;
     }
-    if !entries_keep(t, m, k) {
-        return false;
-    }
-    keys_unique(t, k)
+    slots_keep(t, m, k)
 }

@@ -16,12 +16,12 @@ use Rattle.numbers.specs.Laws.{clock-of, new-above}
 use Rattle.records.specs.declared.head.Head.{Head}
 use Rattle.slots.specs.declared.replica.Replica.{Replica}
 use Rattle.slots.specs.declared.listed.Listed.{Listed}
-use Rattle.document.specs.Tables.{Table, withHighest, find, headOf?, headOf, findEntry, isKey, entriesOf}
+use Rattle.document.specs.Tables.{Table, withHighest, find, headOf?, headOf, findEntry}
 use Rattle.document.specs.Sound.{distinct, sameKey, sameId}
 use Rattle.document.specs.Steps.{joinInto, joinAll, clockAt, stampAt, putHead, put, placeEntry, strike, samePlace, setBy, issue}
 use Rattle.views.specs.Lists.{In}
 use Rattle.views.specs.Puts.{versionOf, pendingOf, version-put, pending-put, head-put-same, head-put-other, put-cases, put-distinct}
-use Rattle.views.specs.Joins.{After, join-all-same, join-all-after, join-all-there, join-all-other, join-all-in, join-all-distinct, join-all-entries}
+use Rattle.views.specs.Joins.{After, join-all-same, join-all-after, join-all-in, join-all-distinct}
 
 -- ---- the same place
 
@@ -169,26 +169,6 @@ module _ (now : ℕ) (f : ℕ → Head) (t : Table) where
   issue-after d c n z p =
       join-all-after (setBy made (headOf t (made .id))) (put made (withHighest t (clockAt now t))) d c n z p
 
-  -- each that is set is there with no lesser stamp
-  pub issue-there : (e : Listed) → In e (setBy made (headOf t (made .id))) →
-      (z : Listed) × (findEntry (e .directory) (e .entry .child) (e .entry .name) (issue now f t .entries) ≡ some z)
-      × (e .entry .stamp ≤ z .entry .stamp)
-  unfolding issue
-  issue-there e m = join-all-there (setBy made (headOf t (made .id))) (put made (withHighest t (clockAt now t))) e m
-
-  pub issue-other : (d c : ℕ) (n : Name) →
-      ((e : Listed) → In e (setBy made (headOf t (made .id))) → isKey d c n e ≡ false) →
-      findEntry d c n (issue now f t .entries) ≡ findEntry d c n (t .entries)
-  unfolding issue
-  issue-other d c n h =
-      join-all-other (setBy made (headOf t (made .id))) (put made (withHighest t (clockAt now t))) d c n h
-
-  pub issue-entries : (d : ℕ) → ((e : Listed) → In e (setBy made (headOf t (made .id))) → e .directory ≡ d → ⊥) →
-      entriesOf d (issue now f t .entries) ≡ entriesOf d (t .entries)
-  unfolding issue
-  issue-entries d h =
-      join-all-entries (setBy made (headOf t (made .id))) (put made (withHighest t (clockAt now t))) d h
-
   -- the entries as they stand: of a new replica, of one that stays at its place, and of one that is moved
   entries-set : (o : Option Head) → headOf t (made .id) ≡ o →
       issue now f t .entries ≡ joinAll (setBy made o) (put made (withHighest t (clockAt now t))) .entries
@@ -204,16 +184,7 @@ module _ (now : ℕ) (f : ℕ → Head) (t : Table) where
       ap (λ (x : Bool). joinAll (placeEntry made ∷ cond x [] (strike made old ∷ []))
       (put made (withHighest t (clockAt now t))) .entries) p
 
-  pub issue-entries-new : headOf t (made .id) ≡ none → issue now f t .entries ≡ joinInto (placeEntry made) (t .entries)
-  unfolding setBy joinAll
-  issue-entries-new e = entries-set none e
-
   pub issue-entries-stay : (old : Head) → headOf t (made .id) ≡ some old → samePlace made old ≡ true →
       issue now f t .entries ≡ joinInto (placeEntry made) (t .entries)
   unfolding joinAll
   issue-entries-stay old e p = entries-set (some old) e ∙ entries-struck old true p
-
-  pub issue-entries-move : (old : Head) → headOf t (made .id) ≡ some old → samePlace made old ≡ false →
-      issue now f t .entries ≡ joinInto (strike made old) (joinInto (placeEntry made) (t .entries))
-  unfolding joinAll
-  issue-entries-move old e p = entries-set (some old) e ∙ entries-struck old false p

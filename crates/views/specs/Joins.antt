@@ -5,12 +5,13 @@ use mathlib.Core.Logic.{_⊎_, inl, inr}
 use mathlib.Core.Bool.{Bool, true, false, not, cond}
 use mathlib.Core.Option.{Option, some, none}
 use mathlib.Core.List.{List, [], _∷_, List·Memᴰ·head, List·Memᴰ·tail, List·Memᴰ·cases-cons}
-use Prim.Native.Nat.{ℕ, suc, _≤_, _<_}
+use Prim.Native.Nat.{ℕ, suc, _+_, _≤_, _<_}
 use native.Mathlib.Omega.{arith}
+use native.Mathlib.Nat.{add-zero}
 use lib.Dec.{eqb, ltb}
 use lib.ListN.{length}
-use borrow.Author.Tests.{eq-eqb, ne-eqb, eqb-true, ltb-true, ltb-false}
-use Rattle.codec.specs.Lists.{every, and-true}
+use borrow.Author.Tests.{eq-eqb, eqb-true, ltb-true, ltb-false, not-true}
+use Rattle.codec.specs.Lists.{every, and-true, and-both}
 use Rattle.names.specs.declared.Name.{Name}
 use Rattle.names.specs.Names.{sameName, same-name-eq, same-name-refl}
 use Rattle.records.specs.declared.entry.Entry.{Entry}
@@ -18,6 +19,7 @@ use Rattle.slots.specs.declared.listed.Listed.{Listed}
 use Rattle.document.specs.Tables.{Table, first, isKey, findEntry, entryOf?, entriesOf}
 use Rattle.document.specs.Sound.{distinct, sameKey}
 use Rattle.document.specs.Steps.{newer, joinInto, joined, joinAll}
+use Rattle.document.specs.Messages.{sameChildName}
 use Rattle.views.specs.Lists.{In, no-both, some-only, not-none, first-passes, first-in, first-only, every-in, in-every}
 
 -- ---- keys
@@ -110,15 +112,6 @@ entry-member l d x m =
   where
     apart : (y z : Listed) → sameKey x y ≡ true → sameKey x z ≡ true → sameKey y z ≡ true
     apart y z p q = sym (same-key-left x y (same-key x y p) z) ∙ q
-
--- so two entries with one key are one
-pub entry-one : (l : List Listed) → distinct sameKey l ≡ true → (x y : Listed) → In x l → In y l → KeyOf x y → x ≡ y
-entry-one l d x y m i k =
-    some-only (sym (entry-member l d x m) ∙ alike ∙ entry-member l d y i)
-  where
-    alike : findEntry (x .directory) (x .entry .child) (x .entry .name) l
-        ≡ findEntry (y .directory) (y .entry .child) (y .entry .name) l
-    alike = rw (k .directory, k .child, k .name)
 
 -- ---- after a join
 
@@ -286,66 +279,67 @@ join-distinct e (x ∷ xs) d =
     go false h q s ih =
         rw (in-every (λ y. not (sameKey x y)) (joinInto e xs) (λ y i. other h q y (join-in e xs y i))) ih
 
--- the entries of another directory stay
-pub join-entries : (e : Listed) (l : List Listed) (d : ℕ) → (e .directory ≡ d → ⊥) →
-    entriesOf d (joinInto e l) ≡ entriesOf d l
-unfolding entriesOf joinInto
-join-entries e [] d ne = rw (ne-eqb (e .directory) d ne)
-join-entries e (x ∷ xs) d ne = go (sameKey e x) refl (join-entries e xs d ne)
+-- how many more there are
+abbrev pub extra : Option Listed → ℕ
+extra none = 1
+extra (some y) = 0
+
+pub join-size : (x : Listed) (es : List Listed) → length (joinInto x es) ≡ length es + extra (first (sameKey x) es)
+unfolding joinInto first
+join-size x [] = refl
+join-size x (y ∷ ys) = go (sameKey x y) (join-size x ys)
   where
-    apart : (y : Listed) → KeyOf e y → eqb (y .directory) d ≡ false
-    apart y k = ne-eqb (y .directory) d (λ q. ne (sym (k .directory) ∙ q))
+    go : (b : Bool) → length (joinInto x ys) ≡ length ys + extra (first (sameKey x) ys) →
+        length (cond b (newer x y ∷ ys) (y ∷ joinInto x ys)) ≡ suc (length ys) + extra (cond b (some y) (first (sameKey x) ys))
+    go true h = omega arith
+    go false h = omega (arith, h)
 
-    go : (b : Bool) → sameKey e x ≡ b → entriesOf d (joinInto e xs) ≡ entriesOf d xs →
-        entriesOf d (cond b (newer e x ∷ xs) (x ∷ joinInto e xs)) ≡ entriesOf d (x ∷ xs)
-    go true h ih = rw (apart (newer e x) (newer-key e x h), apart x (same-key e x h))
-    go false h ih = rw ih
+-- the newer of two with one key is in their directory
+pub newer-directory : (e y : Listed) → sameKey e y ≡ true → newer e y .directory ≡ y .directory
+newer-directory e y k = newer-key e y k .directory ∙ sym (same-key e y k .directory)
 
--- an entry whose key is there takes no new slot, in no directory
-pub join-length-held : (e : Listed) (l : List Listed) (z : Listed) →
-    findEntry (e .directory) (e .entry .child) (e .entry .name) l ≡ some z → length (joinInto e l) ≡ length l
-unfolding first joinInto
-join-length-held e [] z q = absurd (not-none q)
-join-length-held e (x ∷ xs) z q = go (sameKey e x) q (join-length-held e xs z)
+-- as many entries in each directory, where one stands for another of the same
+crowd-head : (x y : Listed) (d : ℕ) (ys : List Listed) → x .directory ≡ y .directory →
+    length (entriesOf d (x ∷ ys)) ≡ length (entriesOf d (y ∷ ys))
+unfolding entriesOf
+crowd-head x y d ys e = go (eqb (y .directory) d) (ap (λ (m : ℕ). eqb m d) e)
   where
-    go : (b : Bool) → cond b (some x) (findEntry (e .directory) (e .entry .child) (e .entry .name) xs) ≡ some z →
-        (findEntry (e .directory) (e .entry .child) (e .entry .name) xs ≡ some z → length (joinInto e xs) ≡ length xs) →
-        length (cond b (newer e x ∷ xs) (x ∷ joinInto e xs)) ≡ suc (length xs)
-    go true p ih = refl
-    go false p ih = ap suc (ih p)
+    go : (b : Bool) → eqb (x .directory) d ≡ b →
+        length (cond (eqb (x .directory) d) (x .entry ∷ entriesOf d ys) (entriesOf d ys))
+        ≡ length (cond b (y .entry ∷ entriesOf d ys) (entriesOf d ys))
+    go true k = rw k
+    go false k = rw k
 
-pub join-count-held : (e : Listed) (l : List Listed) (z : Listed) →
-    findEntry (e .directory) (e .entry .child) (e .entry .name) l ≡ some z → (d : ℕ) →
-    length (entriesOf d (joinInto e l)) ≡ length (entriesOf d l)
-unfolding first joinInto entriesOf
-join-count-held e [] z q d = absurd (not-none q)
-join-count-held e (x ∷ xs) z q d = go (sameKey e x) refl q (λ p. join-count-held e xs z p d)
+crowd-next : (y : Listed) (d : ℕ) (old new : List Listed) → (n : ℕ) → length (entriesOf d new) ≡ length (entriesOf d old) + n →
+    length (entriesOf d (y ∷ new)) ≡ length (entriesOf d (y ∷ old)) + n
+unfolding entriesOf
+crowd-next y d old new n e = go (eqb (y .directory) d)
   where
-    count : (y : Listed) → y .directory ≡ x .directory →
-        length (cond (eqb (y .directory) d) (y .entry ∷ entriesOf d xs) (entriesOf d xs))
-        ≡ length (cond (eqb (x .directory) d) (x .entry ∷ entriesOf d xs) (entriesOf d xs))
-    count y p = on (eqb (x .directory) d) (ap (λ (m : ℕ). eqb m d) p)
-      where
-        on : (b : Bool) → eqb (y .directory) d ≡ b →
-            length (cond (eqb (y .directory) d) (y .entry ∷ entriesOf d xs) (entriesOf d xs))
-            ≡ length (cond b (x .entry ∷ entriesOf d xs) (entriesOf d xs))
-        on true k = rw k
-        on false k = rw k
+    go : (a : Bool) →
+        length (cond a (y .entry ∷ entriesOf d new) (entriesOf d new)) ≡ length (cond a (y .entry ∷ entriesOf d old) (entriesOf d old)) + n
+    go true = omega (arith, e)
+    go false = e
 
-    more : length (entriesOf d (joinInto e xs)) ≡ length (entriesOf d xs) → (b : Bool) →
-        length (cond b (x .entry ∷ entriesOf d (joinInto e xs)) (entriesOf d (joinInto e xs)))
-        ≡ length (cond b (x .entry ∷ entriesOf d xs) (entriesOf d xs))
-    more ih true = ap suc ih
-    more ih false = ih
+-- how many more a directory has
+abbrev pub oneMore : Listed → Option Listed → ℕ → ℕ
+oneMore x none d = cond (eqb (x .directory) d) 1 0
+oneMore x (some y) d = 0
 
-    go : (b : Bool) → sameKey e x ≡ b →
-        cond b (some x) (findEntry (e .directory) (e .entry .child) (e .entry .name) xs) ≡ some z →
-        (findEntry (e .directory) (e .entry .child) (e .entry .name) xs ≡ some z →
-        length (entriesOf d (joinInto e xs)) ≡ length (entriesOf d xs)) →
-        length (entriesOf d (cond b (newer e x ∷ xs) (x ∷ joinInto e xs))) ≡ length (entriesOf d (x ∷ xs))
-    go true h p ih =
-        count (newer e x) (newer-key e x h .directory ∙ sym (same-key e x h .directory))
-    go false h p ih = more (ih p) (eqb (x .directory) d)
+pub crowd-join : (x : Listed) (es : List Listed) (d : ℕ) →
+    length (entriesOf d (joinInto x es)) ≡ length (entriesOf d es) + oneMore x (first (sameKey x) es) d
+unfolding joinInto first entriesOf
+crowd-join x [] d = alone (eqb (x .directory) d) refl
+  where
+    alone : (b : Bool) → eqb (x .directory) d ≡ b → length (entriesOf d (x ∷ [])) ≡ length (entriesOf d []) + cond b 1 0
+    alone true q = simp q
+    alone false q = simp q
+crowd-join x (y ∷ ys) d = go (sameKey x y) refl (crowd-join x ys d)
+  where
+    go : (b : Bool) → sameKey x y ≡ b → length (entriesOf d (joinInto x ys)) ≡ length (entriesOf d ys) + oneMore x (first (sameKey x) ys) d →
+        length (entriesOf d (cond b (newer x y ∷ ys) (y ∷ joinInto x ys)))
+        ≡ length (entriesOf d (y ∷ ys)) + oneMore x (cond b (some y) (first (sameKey x) ys)) d
+    go true q ih = crowd-head (newer x y) y d ys (newer-directory x y q) ∙ sym (add-zero _)
+    go false q ih = crowd-next y d ys (joinInto x ys) _ ih
 
 -- the entries of a directory are those listed in it
 pub in-entries : (d : ℕ) (l : List Listed) (x : Listed) → In x l → x .directory ≡ d → In (x .entry) (entriesOf d l)
@@ -381,6 +375,40 @@ entries-in d (y ∷ ys) e m = go (eqb (y .directory) d) refl m (entries-in d ys 
         (In e (entriesOf d ys) → T ys) → T (y ∷ ys)
     go true p i ih = here p (List·Memᴰ·cases-cons i) ih
     go false p i ih = later (ih i)
+
+-- where no two keys are the same, no two entries of a directory have the same child and name
+pub entries-apart : (d : ℕ) (xs : List Listed) → distinct sameKey xs ≡ true → distinct sameChildName (entriesOf d xs) ≡ true
+unfolding entriesOf distinct
+entries-apart d [] k = refl
+entries-apart d (x ∷ xs) k =
+    let p = and-true (every (λ (y : Listed). not (sameKey x y)) xs) _ k in
+    go (eqb (x .directory) d) refl (every-in (λ (y : Listed). not (sameKey x y)) xs (p .0)) (entries-apart d xs (p .1))
+  where
+    go : (b : Bool) → eqb (x .directory) d ≡ b → ((y : Listed) → In y xs → not (sameKey x y) ≡ true) →
+        distinct sameChildName (entriesOf d xs) ≡ true →
+        distinct sameChildName (cond b (x .entry ∷ entriesOf d xs) (entriesOf d xs)) ≡ true
+    go false z f ih = ih
+    go true z f ih = and-both (in-every (λ (e : Entry). not (sameChildName (x .entry) e)) (entriesOf d xs) other) ih
+      where
+        same : (e : Entry) (y : Listed) → y .directory ≡ d → y .entry ≡ e → sameChildName (x .entry) e ≡ true →
+            sameKey x y ≡ true
+        same e y at is s =
+            let p = and-true (eqb (x .entry .child) (e .child)) _ s in
+            key-is (x .directory) (x .entry .child) (x .entry .name) y
+            (record {
+              directory = at ∙ sym (eqb-true _ _ z);
+              child = ap (λ (v : Entry). v .child) is ∙ sym (eqb-true _ _ (p .0));
+              name = ap (λ (v : Entry). v .name) is ∙ sym (same-name-eq _ _ (p .1));
+            })
+
+        other : (e : Entry) → In e (entriesOf d xs) → not (sameChildName (x .entry) e) ≡ true
+        other e m =
+            let r = entries-in d xs e m in
+            told (sameChildName (x .entry) e) (same e (r .0) (r .2) (r .3)) (not-true _ (f (r .0) (r .1)))
+          where
+            told : (b : Bool) {c : Bool} → (b ≡ true → c ≡ true) → c ≡ false → not b ≡ true
+            told true g n = absurd (no-both _ (g refl) n)
+            told false g n = refl
 
 -- ---- joins one after the other
 
@@ -453,14 +481,6 @@ join-all-there (x ∷ xs) t e m = go (List·Memᴰ·cases-cons m) (join-all-ther
         (a .entry, a .is, stays e (j .0) le a)
     go (inr i) ih = ih i
 
--- a key that none of them has finds what it found
-pub join-all-other : (es : List Listed) (t : Table) (d c : ℕ) (n : Name) →
-    ((e : Listed) → In e es → isKey d c n e ≡ false) →
-    findEntry d c n (joinAll es t .entries) ≡ findEntry d c n (t .entries)
-join-all-other es t d c n h =
-    join-all (λ (u : Table). findEntry d c n (u .entries) ≡ findEntry d c n (t .entries)) es
-    (λ e m u s. find-join-other e (u .entries) d c n (h e m) ∙ s) t refl
-
 pub join-all-in : (es : List Listed) (t : Table) (y : Listed) → In y (joinAll es t .entries) → In y es ⊎ In y (t .entries)
 unfolding joinAll
 join-all-in [] t y m = inr m
@@ -478,9 +498,3 @@ pub join-all-distinct : (es : List Listed) (t : Table) → distinct sameKey (t .
     distinct sameKey (joinAll es t .entries) ≡ true
 join-all-distinct es t d =
     join-all (λ (u : Table). distinct sameKey (u .entries) ≡ true) es (λ e m u s. join-distinct e (u .entries) s) t d
-
-pub join-all-entries : (es : List Listed) (t : Table) (d : ℕ) → ((e : Listed) → In e es → e .directory ≡ d → ⊥) →
-    entriesOf d (joinAll es t .entries) ≡ entriesOf d (t .entries)
-join-all-entries es t d h =
-    join-all (λ (u : Table). entriesOf d (u .entries) ≡ entriesOf d (t .entries)) es
-    (λ e m u s. join-entries e (u .entries) d (h e m) ∙ s) t refl

@@ -1,8 +1,10 @@
+pub mod Chains
 pub mod Issues
 pub mod Joins
 pub mod Lists
 pub mod Maps
 pub mod Puts
+pub mod ReadBack
 pub mod Sets
 pub mod Settles
 pub mod Sounds

@@ -9,7 +9,7 @@ use Prim.Native.Nat.{ℕ}
 use native.Mathlib.Omega.{arith}
 use lib.Dec.{eqb}
 use borrow.Author.Tests.{eqb-true, eqb-false, not-true}
-use Rattle.codec.specs.Lists.{every, and-true}
+use Rattle.codec.specs.Lists.{every, and-true, every-member}
 use Rattle.document.specs.Tables.{first}
 use Rattle.document.specs.Sound.{distinct}
 
@@ -66,44 +66,11 @@ module _ {A : Type 0} (f : A → Bool) where
       go true q ih = List·Memᴰ·head (sym (some-only q))
       go false q ih = List·Memᴰ·tail (ih q)
 
-  -- where nothing is found, nothing passes
-  pub first-none : (l : List A) → first f l ≡ none → (x : A) → In x l → f x ≡ false
-  unfolding first
-  first-none [] e x m = elim m [ ]
-  first-none (y ∷ ys) e x m = go (f y) refl e (λ p i. first-none ys p x i) (List·Memᴰ·cases-cons m)
-    where
-      go : (b : Bool) → f y ≡ b → _≡_ {A = Option A} (cond b (some y) (first f ys)) none →
-          (first f ys ≡ none → In x ys → f x ≡ false) → (x ≡ y) ⊎ In x ys → f x ≡ false
-      go true p q ih c = absurd (not-none (sym q))
-      go false p q ih (inl s) = ap f s ∙ p
-      go false p q ih (inr i) = ih q i
-
-  pub none-first : (l : List A) → ((x : A) → In x l → f x ≡ false) → first f l ≡ none
-  unfolding first
-  none-first [] h = refl
-  none-first (y ∷ ys) h = rw (h y (List·Memᴰ·head refl)) (none-first ys (λ x m. h x (List·Memᴰ·tail m)))
-
-  -- where one passes, one is found
-  pub first-some : (l : List A) (x : A) → In x l → f x ≡ true → (y : A) × (first f l ≡ some y)
-  first-some l x m p = go (first f l) refl
-    where
-      go : (o : Option A) → first f l ≡ o → (y : A) × (first f l ≡ some y)
-      go none e = absurd (no-both (f x) p (first-none l e x m))
-      go (some y) e = (y, e)
-
 -- ---- every element passes
 
 module _ {A : Type 0} (f : A → Bool) where
   pub every-in : (l : List A) → every f l ≡ true → (x : A) → In x l → f x ≡ true
-  unfolding every
-  every-in [] h x m = elim m [ ]
-  every-in (y ∷ ys) h x m =
-      let p = and-true (f y) _ h in
-      go (List·Memᴰ·cases-cons m) (p .0) (λ i. every-in ys (p .1) x i)
-    where
-      go : (x ≡ y) ⊎ In x ys → f y ≡ true → (In x ys → f x ≡ true) → f x ≡ true
-      go (inl e) p ih = ap f e ∙ p
-      go (inr i) p ih = ih i
+  every-in l h x m = every-member f m h
 
   pub in-every : (l : List A) → ((x : A) → In x l → f x ≡ true) → every f l ≡ true
   unfolding every

@@ -117,15 +117,6 @@ put-cases h l f x e = go (same? f (h .id))
 pub put-here : (h : Head) (l : List Replica) (f : ℕ) → f ≡ h .id → headOf? (find f (putHead h l)) ≡ some h
 put-here h l f p = ap (λ (m : ℕ). headOf? (find m (putHead h l))) p ∙ head-put-same h l
 
--- what is held stays held
-pub put-held : (h : Head) (l : List Replica) (f : ℕ) (x : Head) → headOf? (find f l) ≡ some x →
-    (y : Head) × (headOf? (find f (putHead h l)) ≡ some y)
-put-held h l f x e = go (same? f (h .id))
-  where
-    go : (f ≡ h .id) ⊎ (f ≡ h .id → ⊥) → (y : Head) × (headOf? (find f (putHead h l)) ≡ some y)
-    go (inl p) = (h, put-here h l f p)
-    go (inr ne) = (x, head-put-other h l f ne ∙ e)
-
 version-on : (h : Head) (o : Option Replica) → putOn h o .version ≡ versionOf o
 version-on h none = refl
 version-on h (some r) = refl
@@ -204,7 +195,7 @@ put-distinct h (r ∷ rs) d =
     go false e q s ih =
         rw (in-every (λ y. not (sameId r y)) (putHead h rs) (λ y i. other e q y (put-in h rs y i))) ih
 
--- a replica that is held takes no new slot, and another takes one
+-- a replica that is held takes no new slot
 pub put-length-held : (h : Head) (l : List Replica) (r : Replica) → find (h .id) l ≡ some r →
     length (putHead h l) ≡ length l
 unfolding first putHead
@@ -215,15 +206,4 @@ put-length-held h (x ∷ xs) r e = go (eqb (x .head .id) (h .id)) e (put-length-
         (find (h .id) xs ≡ some r → length (putHead h xs) ≡ length xs) →
         length (cond b (renewed h x ∷ xs) (x ∷ putHead h xs)) ≡ suc (length xs)
     go true q ih = refl
-    go false q ih = ap suc (ih q)
-
-pub put-length-new : (h : Head) (l : List Replica) → find (h .id) l ≡ none → length (putHead h l) ≡ suc (length l)
-unfolding first putHead
-put-length-new h [] e = refl
-put-length-new h (x ∷ xs) e = go (eqb (x .head .id) (h .id)) e (put-length-new h xs)
-  where
-    go : (b : Bool) → _≡_ {A = Option Replica} (cond b (some x) (find (h .id) xs)) none →
-        (find (h .id) xs ≡ none → length (putHead h xs) ≡ suc (length xs)) →
-        length (cond b (renewed h x ∷ xs) (x ∷ putHead h xs)) ≡ suc (suc (length xs))
-    go true q ih = absurd (not-none (sym q))
     go false q ih = ap suc (ih q)

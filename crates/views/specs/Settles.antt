@@ -59,7 +59,7 @@ same-entry a b e =
     let r = and-true (eqb (a .stamp) (b .stamp)) _ (q .1) in
     entry-ext (eqb-true _ _ (p .0)) (eqb-true _ _ (q .0)) (eqb-true _ _ (r .0)) (same-name-eq _ _ (r .1))
 
-entry-same : (a : Entry) → sameEntry a a ≡ true
+pub entry-same : (a : Entry) → sameEntry a a ≡ true
 entry-same a =
     simp (
       eq-eqb (a .live) (a .live) refl,
@@ -77,14 +77,6 @@ same-entries (x ∷ xs) (y ∷ ys) e =
     let p = and-true (sameEntry x y) _ e in
     ap (λ (z : Entry). z ∷ xs) (same-entry x y (p .0)) ∙ ap (λ (zs : List Entry). y ∷ zs) (same-entries xs ys (p .1))
 
-entries-self : (a : List Entry) → sameEntries a a ≡ true
-unfolding sameEntries
-entries-self [] = refl
-entries-self (x ∷ xs) = rw (entry-same x) (entries-self xs)
-
-pub entries-same : (a b : List Entry) → a ≡ b → sameEntries a b ≡ true
-entries-same a b e = ap (sameEntries a) (sym e) ∙ entries-self a
-
 -- unchanged: the old table has that head, and those entries
 pub unchanged-head : (old t : Table) (h : Head) → unchanged old t h ≡ true → headOf old (h .id) ≡ some h
 unchanged-head old t h e = same-head h (headOf old (h .id)) (and-true (sameHead h (headOf old (h .id))) _ e .0)
@@ -92,10 +84,6 @@ unchanged-head old t h e = same-head h (headOf old (h .id)) (and-true (sameHead 
 pub unchanged-entries : (old t : Table) (h : Head) → unchanged old t h ≡ true →
     entriesOf (h .id) (old .entries) ≡ entriesOf (h .id) (t .entries)
 unchanged-entries old t h e = same-entries _ _ (and-true (sameHead h (headOf old (h .id))) _ e .1)
-
-pub is-unchanged : (old t : Table) (h : Head) → headOf old (h .id) ≡ some h →
-    entriesOf (h .id) (old .entries) ≡ entriesOf (h .id) (t .entries) → unchanged old t h ≡ true
-is-unchanged old t h p q = rw (head-same h (headOf old (h .id)) p) (entries-same _ _ q)
 
 -- ---- slot by slot
 
@@ -158,10 +146,6 @@ module _ (old t : Table) where
   pub settle-highest : settle old t .highest ≡ t .highest
   unfolding settle
   settle-highest = refl
-
-  pub settle-replicas : settle old t .replicas ≡ settleAll old t (t .replicas)
-  unfolding settle
-  settle-replicas = refl
 
   pub find-settled : (f : ℕ) → find f (settle old t .replicas) ≡ settledIn old t (find f (t .replicas))
   unfolding settle

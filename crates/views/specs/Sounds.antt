@@ -1,27 +1,30 @@
 -- "A sound table" as propositions: a field for each rule, over what an id or a key finds and over what stands in the
 -- lists; that a table is found sound exactly if it has them all. Assumes nothing.
 use mathlib.Core.Path.{_≡_, refl, ap, sym, subst, _∙_}
+use mathlib.Core.Logic.{_⊎_, inl, inr}
 use mathlib.Core.Bool.{Bool, true, false, _&&_, _||_, not, cond, true≢false}
 use mathlib.Core.Option.{Option, some, none}
 use mathlib.Core.List.{List, [], _∷_}
 use Prim.Native.Nat.{ℕ, _+_, _^_, _≤_, _<_}
+use native.Mathlib.Omega.{arith}
 use lib.Dec.{eqb, leb}
 use lib.ListN.{length}
 use borrow.Author.Tests.{eqb-true, eqb-false, leb-true, ltb-true, eq-eqb, ne-eqb, le-leb, lt-ltb, not-true, not-false}
-use Rattle.codec.specs.Lists.{every, and-true}
+use Rattle.codec.specs.Lists.{every, and-true, implied, and-both}
 use Rattle.numbers.specs.Nodes.{isWithin, isSize, isNode, isSet, has}
 use Rattle.numbers.specs.Ids.{maker, count, clockOf, isVersion}
 use Rattle.records.specs.declared.head.Head.{Head}
 use Rattle.records.specs.declared.entry.Entry.{Entry}
 use Rattle.records.specs.Heads.{headFits, rootHead, root-is}
+use Rattle.records.specs.Ordinary.{ordinary-is}
 use Rattle.slots.specs.declared.replica.Replica.{Replica}
 use Rattle.slots.specs.declared.listed.Listed.{Listed}
 use Rattle.slots.specs.TableHeaders.{tableHeaderFits}
-use Rattle.document.specs.Tables.{Table, first, find, headOf?, headOf, entryOf, entriesOf, headerOf, replicaFits, listedFits, fits}
-use Rattle.document.specs.Sound.{isRootId, isLive, isDirectory, heldAnd, rootFirst, rootIn, idsUnique, makerHolds, holdersInclude, pendingWithin, ownBelowNext, isPlaceOf, placeHeld, notCrowded, shows, placeShown, clockSeen, replicaKeeps, isParent, directoryHeld, childNotRoot, entryKeeps, keysUnique, rules, sound}
+use Rattle.document.specs.Tables.{Table, first, find, headOf?, headOf, entryOf, entriesOf, headerOf, replicaFits, listedFits, fits, tableOf}
+use Rattle.document.specs.Sound.{isRootId, isLive, isDirectory, heldAnd, rootFirst, rootIn, idsUnique, makerHolds, holdersInclude, pendingWithin, ownBelowNext, isPlaceOf, placeHeld, notCrowded, shows, placeShown, clockSeen, replicaKeeps, isParent, directoryHeld, childNotRoot, entryKeeps, keysUnique, rules, sound, soundBytes}
 use Rattle.document.specs.Steps.{isDead}
-use Rattle.document.specs.Reading.{parts-of, and-both}
-use Rattle.views.specs.Lists.{In, or-second, some-only, every-in, in-every}
+use Rattle.document.specs.Reading.{parts-of, bytes-sound}
+use Rattle.views.specs.Lists.{In, or-second, some-only, every-in, in-every, same?}
 use Rattle.views.specs.Puts.{head-found, head-own, find-in, find-member, dead-not}
 
 -- ---- the rules, each as a proposition on the table
@@ -147,10 +150,6 @@ held-is f (some h) e = (h, refl, e)
 is-held : (f : Head → Bool) (o : Option Head) (h : Head) → o ≡ some h → f h ≡ true → heldAnd f o ≡ true
 is-held f o h e p = ap (heldAnd f) e ∙ p
 
--- a premise and a disjunction with its denial
-unless : (a b : Bool) → (not a || b) ≡ true → a ≡ true → b ≡ true
-unless a b h e = or-second (not a) b h (ap not e)
-
 to-unless : (a b : Bool) → (a ≡ true → b ≡ true) → (not a || b) ≡ true
 to-unless true b h = h refl
 to-unless false b h = refl
@@ -171,7 +170,7 @@ place-is t h z e =
     let q = and-true (isDirectory (p .0)) _ (p .2) in
     let r = and-true (eqb (p .0 .depth + 1) (h .depth)) _ (q .1) in (
       record { parent = p .0; held = p .1; directory = q .0; depth = eqb-true _ _ (r .0) },
-      λ l. dead-not (headOf t (h .directory)) (p .0) (p .1) ∙ ap not (unless (isLive h) _ (r .1) l),
+      λ l. dead-not (headOf t (h .directory)) (p .0) (p .1) ∙ ap not (implied (isLive h) _ (r .1) l),
     )
 
 pub is-place : (t : Table) (h : Head) → ((h .id ≡ 0 → ⊥) → Place t h) →
@@ -197,7 +196,7 @@ shows-is t h (some x) e p =
       entry = x;
       there = e;
       stamp = leb-true _ _ (q .0);
-      live = λ s. unless (eqb (h .stamp) (x .stamp)) _ (q .1) (eq-eqb _ _ s);
+      live = λ s. implied (eqb (h .stamp) (x .stamp)) _ (q .1) (eq-eqb _ _ s);
     }
 
 pub is-shown : (t : Table) (h : Head) → Entered t h → shows h (entryOf t (h .directory) (h .id) (h .name)) ≡ true
@@ -366,7 +365,7 @@ sound-is t e =
       pendings-within = λ f r p. kept r (find-in f (t .replicas) r p) .pending;
       own-below =
           λ f h p. from f h p (λ x. maker (x .id) ≡ t .own → count (x .id) < t .next)
-          (λ r i q. ltb-true _ _ (unless (eqb (maker (r .head .id)) (t .own)) _ (kept r i .below) (eq-eqb _ _ q)));
+          (λ r i q. ltb-true _ _ (implied (eqb (maker (r .head .id)) (t .own)) _ (kept r i .below) (eq-eqb _ _ q)));
       placed =
           λ f h p. from f h p (λ x. (x .id ≡ 0 → ⊥) → Place t x) (λ r i z. place-is t (r .head) z (kept r i .place) .0);
       live-places =
@@ -377,7 +376,7 @@ sound-is t e =
       shown =
           λ f h p. from f h p (λ x. (x .id ≡ 0 → ⊥) → isLive x ≡ true → Entered t x)
           (λ r i z l. shows-is t (r .head) _ refl
-          (or-second (isRootId (r .head)) _ (unless (isLive (r .head)) _ (kept r i .shown) l) (not-root (r .head) z)));
+          (or-second (isRootId (r .head)) _ (implied (isLive (r .head)) _ (kept r i .shown) l) (not-root (r .head) z)));
       head-clocks = λ f h p. from f h p (λ x. clockOf (x .stamp) ≤ t .highest) (λ r i. leb-true _ _ (kept r i .clock));
       parents = λ x m. entry x m .0;
       no-root-child = λ x m. entry x m .1;
@@ -481,3 +480,18 @@ pub root-only : (t : Table) → rootFirst t ≡ true → (f : ℕ) (h : Head) �
 root-only t e f h p z =
     some-only
     (sym (head-own f (t .replicas) h p) ∙ ap (λ (m : ℕ). headOf t m) z ∙ root-held t e)
+
+-- "1 to 16; the root's is 0"
+abbrev pub DepthsFit : Table → Type 0
+DepthsFit t = Heads t (λ h. h .depth ≤ 16)
+
+pub depths-of : (t : Table) → rootFirst t ≡ true → HeadsFit t → DepthsFit t
+depths-of t r q f h e = go (same? (h .id) 0)
+  where
+    go : (h .id ≡ 0) ⊎ (h .id ≡ 0 → ⊥) → h .depth ≤ 16
+    go (inl z) = subst (λ (y : Head). y .depth ≤ 16) (sym (root-only t r f h e z)) (omega arith)
+    go (inr z) = leb-true _ _ (and-true (leb 1 (h .depth)) _ (ordinary-is (t .nodes) h z (q f h e) .depth) .1)
+
+-- the table that sound bytes are
+pub sound-table : (l : List ℕ) → soundBytes l ≡ true → Sound (tableOf l)
+sound-table l s = sound-is (tableOf l) (bytes-sound l s)

@@ -5,7 +5,8 @@ use mathlib.Core.Path.{refl, ap, sym, _∙_}
 use mathlib.Core.Bool.{not}
 use native.Mathlib.Omega.{arith}
 use Rattle.codec.specs.Lists.{and-stop, and-go, failed, passed}
-use Rattle.judge.specs.Judging.{sound-length, counted, counted-least, odd-judged}
+use Rattle.document.specs.Reading.{sound-length}
+use Rattle.judge.specs.Judging.{counted, counted-least, odd-judged}
 use Rattle.judge.proofs.is_odd.Statement.{statement}
 use Rattle.judge.proofs.is_odd.Tie as tie
 

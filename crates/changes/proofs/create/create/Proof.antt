@@ -9,7 +9,7 @@ use Rattle.codec.specs.Lists.{passed, failed}
 use mathlib.Core.Option.{some}
 use Rattle.names.specs.declared.Name.{Name}
 use Rattle.names.specs.Names.{nameFrom}
-use Rattle.answers.specs.Answers.{sound-length}
+use Rattle.document.specs.Reading.{sound-length}
 use Rattle.table.specs.Ranges.{nodes-at}
 use Rattle.changes.specs.Looking.{slot-held, slot-none}
 use Rattle.changes.specs.Working.{nodes-few}

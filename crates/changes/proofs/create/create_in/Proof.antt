@@ -4,7 +4,7 @@ use mathlib.Core.Path.{sym, _∙_}
 use Prim.Native.Nat.{_-_}
 use Rattle.answers.specs.Answers.{refuses, instead}
 use Rattle.document.specs.Tables.{tableOf}
-use Rattle.answers.specs.Answers.{sound-length}
+use Rattle.document.specs.Reading.{sound-length}
 use Rattle.changes.specs.Creating.{created-7, created-8, created-9, created-11, created-makes}
 use Rattle.changes.proofs.create.create_in.Statement.{statement}
 use Rattle.changes.proofs.create.create_in.Tie as tie

@@ -6,7 +6,8 @@ use Prim.Native.Nat.{_-_}
 use Rattle.answers.specs.Answers.{instead}
 use Rattle.steps.specs.Standing.{sound-stands}
 use Rattle.numbers.specs.Nodes.{join, single}
-use Rattle.steps.specs.Standing.{stands, own-at}
+use Rattle.document.specs.Reading.{own-at}
+use Rattle.steps.specs.Standing.{stands}
 use Rattle.changes.specs.Working.{copy-stands, copy-own, own-few}
 use Rattle.changes.specs.Creating.{make-changes, make-is, make-clock}
 use Rattle.changes.proofs.create.make.Statement.{statement}

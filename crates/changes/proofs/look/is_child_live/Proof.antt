@@ -5,9 +5,9 @@ use Prim.Native.Nat.{ℕ, _-_, _≤_}
 use Rattle.codec.specs.Lists.{or-stop, or-go}
 use Rattle.document.specs.Tables.{tableOf, replicaIn}
 use Rattle.document.specs.Calls.{liveChild}
-use Rattle.steps.specs.Standing.{few-replicas}
 use Rattle.changes.specs.Looking.{anySlot, any-step, any-none, isChildOf, child-any}
 use borrow.Author.Needs.{needs}
+use Rattle.document.specs.Reading.{few-replicas}
 use Rattle.changes.proofs.look.is_child_live.Statement.{statement}
 use Rattle.changes.proofs.look.is_child_live.Tie as tie
 

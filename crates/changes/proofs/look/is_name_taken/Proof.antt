@@ -5,9 +5,9 @@ use Prim.Native.Nat.{ℕ, _-_, _≤_}
 use Rattle.codec.specs.Lists.{or-stop, or-go}
 use Rattle.document.specs.Tables.{tableOf, entryIn}
 use Rattle.document.specs.Calls.{nameTaken}
-use Rattle.steps.specs.Standing.{few-entries}
 use Rattle.changes.specs.Looking.{anySlot, any-step, any-none, isTakenBy, taken-any}
 use borrow.Author.Needs.{needs}
+use Rattle.document.specs.Reading.{few-entries}
 use Rattle.changes.proofs.look.is_name_taken.Statement.{statement}
 use Rattle.changes.proofs.look.is_name_taken.Tie as tie
 

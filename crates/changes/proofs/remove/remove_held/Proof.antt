@@ -2,8 +2,8 @@
 use borrow.Author.Needs.{needs}
 use mathlib.Core.Path.{sym, _∙_}
 use Prim.Native.Nat.{_-_}
+use Rattle.document.specs.Reading.{sound-length}
 use Rattle.answers.specs.Answers.{refuses, instead}
-use Rattle.answers.specs.Answers.{sound-length}
 use Rattle.changes.specs.Killing.{remove-7, remove-8, remove-root, remove-shown, remove-child, remove-kills}
 use Rattle.changes.proofs.remove.remove_held.Statement.{statement}
 use Rattle.changes.proofs.remove.remove_held.Tie as tie

@@ -9,7 +9,7 @@ use mathlib.Core.Option.{some}
 use Rattle.codec.specs.Lists.{passed, failed}
 use Rattle.names.specs.declared.Name.{Name}
 use Rattle.names.specs.Names.{isName}
-use Rattle.answers.specs.Answers.{sound-length}
+use Rattle.document.specs.Reading.{sound-length}
 use Rattle.changes.specs.Looking.{slot-held, slot-none}
 use Rattle.changes.specs.Killing.{takes}
 use Rattle.changes.specs.Renaming.{renamedIn, rename-late, rename-2, rename-6, rename-6-target, rename-in}

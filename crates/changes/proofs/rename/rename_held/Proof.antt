@@ -4,7 +4,7 @@ use mathlib.Core.Path.{sym, _∙_}
 use Prim.Native.Nat.{_-_}
 use Rattle.answers.specs.Answers.{refuses, instead}
 use Rattle.document.specs.Tables.{tableOf}
-use Rattle.answers.specs.Answers.{sound-length}
+use Rattle.document.specs.Reading.{sound-length}
 use Rattle.changes.specs.Renaming.{renamed-7, renamed-7-target, renamed-8, renamed-8-target, renamed-9, renamed-11, renamed-moves, renames-below}
 use Rattle.changes.proofs.rename.rename_held.Statement.{statement}
 use Rattle.changes.proofs.rename.rename_held.Tie as tie

@@ -7,8 +7,8 @@ use Rattle.answers.specs.Answers.{refuses, instead}
 use Rattle.document.specs.Tables.{tableOf}
 use Rattle.codec.specs.Lists.{passed, failed}
 use Rattle.numbers.specs.Nodes.{isSet}
-use Rattle.answers.specs.Answers.{sound-length}
 use Rattle.document.specs.Calls.{spreadIn}
+use Rattle.document.specs.Reading.{sound-length}
 use Rattle.table.specs.Ranges.{nodes-at}
 use Rattle.changes.specs.Looking.{slot-held, slot-none}
 use Rattle.changes.specs.Working.{nodes-few, set-below}

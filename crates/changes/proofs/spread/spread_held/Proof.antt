@@ -20,8 +20,8 @@ slice-aggregate-put c = search needs
 join-requires : tie.Need-join-requires
 join-requires c κs = search needs
 
-held-by-requires : tie.Need-held-by-requires
-held-by-requires c κs = search needs
+with-holders-requires : tie.Need-with-holders-requires
+with-holders-requires c κs = search needs
 
 put-requires : tie.Need-put-requires
 put-requires c κs = copy-stands (c .before .before .before .before .before .before .pre .sound) (λ n. c .before .before .before .before .before .slice-known .given n .fits) (c .before .before .before .copy-of .ensures)
@@ -31,7 +31,7 @@ slice-aggregate-finish c = search needs
 
 finish-requires : tie.Need-finish-requires
 finish-requires c κs =
-    let w = c .before .before .before .before .held-by .ensures ∙ ap (withHolders (c .before .before .before .before .before .before .before .before .before .before .args .h)) (c .before .before .before .before .before .join .ensures) in
+    let w = c .before .before .before .before .with-holders .ensures ∙ ap (withHolders (c .before .before .before .before .before .before .before .before .before .before .args .h)) (c .before .before .before .before .before .join .ensures) in
     spread-ends (c .before .before .before .before .before .before .before .before .before .before .pre) (c .before .before .before .before .before .before .before .copy-of .ensures) _ (c .before .before .before .put .ensures .1 (c .before .before .before .put .ensures .0 ∙ spread-slot (c .before .before .before .before .before .before .before .before .before .before .pre) (c .before .before .before .before .before .before .before .copy-of .ensures) _ w))
 
 same-length : tie.Need-same-length
@@ -39,7 +39,7 @@ same-length c = search needs
 
 returns : tie.Need-returns
 returns c =
-    let w = c .before .before .before .before .before .before .before .before .held-by .ensures ∙ ap (withHolders (c .before .before .before .before .before .before .before .before .before .before .before .before .before .before .args .h)) (c .before .before .before .before .before .before .before .before .before .join .ensures) in
+    let w = c .before .before .before .before .before .before .before .before .with-holders .ensures ∙ ap (withHolders (c .before .before .before .before .before .before .before .before .before .before .before .before .before .before .args .h)) (c .before .before .before .before .before .before .before .before .before .join .ensures) in
     instead _
     (spread-is (c .before .before .before .before .before .before .before .before .before .before .before .before .before .before .pre) (c .before .before .before .before .before .before .before .before .before .before .before .copy-of .ensures) _ w (c .before .before .before .before .before .before .before .put .ensures .1 (c .before .before .before .before .before .before .before .put .ensures .0 ∙ spread-slot (c .before .before .before .before .before .before .before .before .before .before .before .before .before .before .pre) (c .before .before .before .before .before .before .before .before .before .before .before .copy-of .ensures) _ w)))
     (c .before .before .before .finish .ensures)
@@ -51,7 +51,7 @@ spread-held-spec =
     copy-of-requires
     slice-aggregate-put
     join-requires
-    held-by-requires
+    with-holders-requires
     put-requires
     slice-aggregate-finish
     finish-requires

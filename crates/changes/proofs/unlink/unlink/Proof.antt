@@ -5,8 +5,8 @@ use mathlib.Core.Path.{ap, sym, _∙_}
 use Prim.Native.Nat.{ℕ, _-_}
 use Rattle.answers.specs.Answers.{refuses, instead}
 use Rattle.document.specs.Tables.{tableOf}
-use Rattle.answers.specs.Answers.{sound-length}
 use Rattle.document.specs.Calls.{unlinkIn}
+use Rattle.document.specs.Reading.{sound-length}
 use Rattle.changes.specs.Looking.{slot-held, slot-none}
 use Rattle.changes.specs.Killing.{takes, unlink-2, unlink-6}
 use Rattle.changes.proofs.unlink.unlink.Statement.{statement}

@@ -7,8 +7,9 @@ use native.Mathlib.Nat.{sub-zero}
 use Rattle.codec.specs.Lists.{and-stop, and-go, failed, passed}
 use Rattle.document.specs.Tables.{everySlot, tableOf}
 use Rattle.table.specs.Slots.{slots-step, slots-none}
-use Rattle.judge.specs.Judging.{headIn, headAgrees, headsAgree}
+use Rattle.judge.specs.Judging.{headAgrees, headsAgree}
 use borrow.Author.Needs.{needs}
+use Rattle.document.specs.ReadingMessages.{headIn}
 use Rattle.judge.proofs.heads.agree.Statement.{statement}
 use Rattle.judge.proofs.heads.agree.Tie as tie
 

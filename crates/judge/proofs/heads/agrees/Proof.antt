@@ -4,7 +4,8 @@ use mathlib.Core.Path.{ap, sym, _∙_}
 use mathlib.Core.Option.{some}
 use native.Mathlib.Omega.{arith}
 use Rattle.document.specs.Tables.{tableOf}
-use Rattle.steps.specs.Standing.{few-replicas, found-head, not-found}
+use Rattle.document.specs.Reading.{few-replicas}
+use Rattle.steps.specs.Standing.{found-head, not-found}
 use Rattle.judge.specs.Deciding.{agrees-held, agrees-absent}
 use Rattle.judge.proofs.heads.agrees.Statement.{statement}
 use Rattle.judge.proofs.heads.agrees.Tie as tie

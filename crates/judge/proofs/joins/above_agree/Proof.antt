@@ -6,8 +6,9 @@ use native.Mathlib.Omega.{arith}
 use Rattle.codec.specs.Lists.{and-stop, and-go, failed, passed}
 use Rattle.document.specs.Tables.{everySlot, tableOf}
 use Rattle.table.specs.Slots.{slots-step, slots-none}
-use Rattle.judge.specs.Judging.{headIn, madeAgrees, aboveAgree}
+use Rattle.judge.specs.Judging.{madeAgrees, aboveAgree}
 use borrow.Author.Needs.{needs}
+use Rattle.document.specs.ReadingMessages.{headIn}
 use Rattle.judge.proofs.joins.above_agree.Statement.{statement}
 use Rattle.judge.proofs.joins.above_agree.Tie as tie
 

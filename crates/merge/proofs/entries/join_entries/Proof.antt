@@ -12,9 +12,10 @@ use Rattle.document.specs.Steps.{joinAll}
 use Rattle.document.specs.Receive.{joinedIn}
 use lib.ListN.{length}
 use Rattle.merge.specs.Turns.{turn-full, turn-next, turn-end}
-use Rattle.merge.specs.Message.{headIn, headsIn, entriesIn, listedAt, same-listed}
+use Rattle.merge.specs.Message.{headsIn, entriesIn, listedAt, same-listed}
 use Rattle.merge.specs.Entries.{Entering, entering-start}
 use borrow.Author.Needs.{needs}
+use Rattle.document.specs.ReadingMessages.{headIn}
 use Rattle.merge.proofs.entries.join_entries.Statement.{statement}
 use Rattle.merge.proofs.entries.join_entries.Tie as tie
 

@@ -4,7 +4,7 @@ use native.Mathlib.Omega.{arith}
 use mathlib.Core.Path.{ap, _∙_}
 use Rattle.numbers.specs.Nodes.{join, single}
 use Rattle.document.specs.Steps.{withHolders}
-use Rattle.steps.specs.Standing.{own-at}
+use Rattle.document.specs.Reading.{own-at}
 use Rattle.merge.proofs.heads.with_own.Statement.{statement}
 use Rattle.merge.proofs.heads.with_own.Tie as tie
 

@@ -3,7 +3,8 @@ use mathlib.Core.Path.{_≡_, ap, _∙_}
 use borrow.Author.Needs.{needs}
 use Rattle.codec.specs.Lists.{and-stop, and-go, passed, failed}
 use Rattle.records.specs.declared.head.Head.{Head}
-use Rattle.pushes.specs.Judging.{headIn, heldBy, topFine, firstFine}
+use Rattle.document.specs.ReadingMessages.{headIn}
+use Rattle.pushes.specs.Judging.{heldBy, topFine, firstFine}
 use Rattle.pushes.proofs.judge.first_fine.Statement.{statement}
 use Rattle.pushes.proofs.judge.first_fine.Tie as tie
 

@@ -5,7 +5,8 @@ use Prim.Native.Nat.{_-_}
 use borrow.Author.Needs.{needs}
 use Rattle.codec.specs.Lists.{and-stop, and-go, passed, failed}
 use Rattle.records.specs.declared.head.Head.{Head}
-use Rattle.pushes.specs.Judging.{headIn, heldBy, linked, headFine}
+use Rattle.document.specs.ReadingMessages.{headIn}
+use Rattle.pushes.specs.Judging.{heldBy, linked, headFine}
 use Rattle.pushes.proofs.judge.head_fine.Statement.{statement}
 use Rattle.pushes.proofs.judge.head_fine.Tie as tie
 

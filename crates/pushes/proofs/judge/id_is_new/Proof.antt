@@ -11,8 +11,9 @@ use borrow.Author.Needs.{needs}
 use Rattle.codec.specs.Lists.{and-stop, and-go}
 use Rattle.document.specs.Tables.{everySlot}
 use Rattle.document.specs.Messages.{sameHeadId}
+use Rattle.document.specs.ReadingMessages.{headIn}
 use Rattle.table.specs.Slots.{slots-step, slots-none}
-use Rattle.pushes.specs.Judging.{headIn, idNew, id-at}
+use Rattle.pushes.specs.Judging.{idNew, id-at}
 use Rattle.pushes.proofs.judge.id_is_new.Statement.{statement}
 use Rattle.pushes.proofs.judge.id_is_new.Tie as tie
 

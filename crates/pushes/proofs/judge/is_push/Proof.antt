@@ -9,7 +9,8 @@ use borrow.Author.Needs.{needs}
 use Rattle.codec.specs.Lists.{and-stop, and-go, passed, failed}
 use Rattle.records.specs.declared.head.Head.{Head}
 use Rattle.messages.specs.PushHeaders.{pushAt}
-use Rattle.pushes.specs.Judging.{isPush, headIn, headerFine, endsAtRoot}
+use Rattle.document.specs.ReadingMessages.{headIn}
+use Rattle.pushes.specs.Judging.{isPush, headerFine, endsAtRoot}
 use Rattle.pushes.specs.Reading.{orderBy, push-tests, sized-by}
 use Rattle.pushes.proofs.judge.is_push.Statement.{statement}
 use Rattle.pushes.proofs.judge.is_push.Tie as tie

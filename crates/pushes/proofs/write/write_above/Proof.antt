@@ -12,7 +12,9 @@ use Rattle.records.specs.declared.head.Head.{Head}
 use Rattle.records.specs.Heads.{headBytes, headAt}
 use Rattle.document.specs.Tables.{replicaSlot, rows, tableOf}
 use Rattle.document.specs.Messages.{chainUp}
-use Rattle.pushes.specs.Writing.{chain-root, chain-gone, chain-up, chain-end, head-found, head-missing, head-written, rows-end}
+use Rattle.document.specs.Rows.{rows-end}
+use Rattle.views.specs.Chains.{chain-root, chain-gone, chain-up, chain-end}
+use Rattle.pushes.specs.Writing.{head-found, head-missing, head-written}
 use Rattle.pushes.proofs.write.write_above.Statement.{statement}
 use Rattle.pushes.proofs.write.write_above.Tie as tie
 

@@ -11,7 +11,8 @@ use Rattle.codec.specs.Bytes.{splice}
 use Rattle.records.specs.declared.entry.Entry.{Entry}
 use Rattle.records.specs.Entries.{entryBytes, length-entryBytes}
 use Rattle.document.specs.Tables.{rows}
-use Rattle.pushes.specs.Writing.{listedAt, listedFrom, listed-step, listed-end, listed-all, rows-written, rows-end}
+use Rattle.document.specs.Rows.{rows-written, rows-end}
+use Rattle.pushes.specs.Writing.{listedAt, listedFrom, listed-step, listed-end, listed-all}
 use Rattle.pushes.proofs.write.write_entries.Statement.{statement}
 use Rattle.pushes.proofs.write.write_entries.Tie as tie
 

@@ -11,8 +11,9 @@ use Rattle.codec.specs.Bytes.{splice}
 use Rattle.records.specs.declared.entry.Entry.{Entry}
 use Rattle.records.specs.Entries.{entryAt, entryBytes}
 use Rattle.document.specs.Tables.{entrySlot, rows}
+use Rattle.document.specs.Rows.{rows-one, rows-end}
 use Rattle.table.specs.Slots.{directory-at}
-use Rattle.pushes.specs.Writing.{listedAt, not-listed, is-listed, rows-one, rows-end}
+use Rattle.pushes.specs.Writing.{listedAt, not-listed, is-listed}
 use Rattle.pushes.proofs.write.write_slot.Statement.{statement}
 use Rattle.pushes.proofs.write.write_slot.Tie as tie
 

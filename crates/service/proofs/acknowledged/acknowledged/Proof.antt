@@ -9,8 +9,9 @@ use Rattle.messages.specs.Acknowledgements.{ackOf}
 use Rattle.document.specs.Tables.{tableOf}
 use Rattle.document.specs.Outcomes.{Outcome, tableAfter}
 use Rattle.document.specs.Calls.{clearIn}
+use Rattle.document.specs.Reading.{sound-length}
 use Rattle.table.specs.Ranges.{nodes-at}
-use Rattle.answers.specs.Answers.{answerOf, not-sound, sound-length, refuses}
+use Rattle.answers.specs.Answers.{answerOf, not-sound, refuses}
 use Rattle.service.specs.Acknowledging.{isAck, malformed, well-formed, ack-whole, ack-length}
 use Rattle.service.proofs.acknowledged.acknowledged.Statement.{statement}
 use Rattle.service.proofs.acknowledged.acknowledged.Tie as tie

@@ -5,10 +5,10 @@ use native.Mathlib.Omega.{arith}
 use borrow.Author.Needs.{needs}
 use borrow.Author.Tests.{eq-eqb, ne-eqb}
 use Rattle.document.specs.Tables.{tableOf}
+use Rattle.document.specs.Reading.{own-at, sound-length}
 use Rattle.table.specs.Slots.{firstReplica}
-use Rattle.answers.specs.Answers.{sound-length, refuses}
+use Rattle.answers.specs.Answers.{refuses}
 use Rattle.service.specs.Acknowledging.{clear-5, clear-6, not-found}
-use Rattle.steps.specs.Standing.{own-at}
 use Rattle.service.proofs.acknowledged.clear.Statement.{statement}
 use Rattle.service.proofs.acknowledged.clear.Tie as tie
 

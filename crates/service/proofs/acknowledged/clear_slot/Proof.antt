@@ -8,9 +8,8 @@ use lib.Dec.{eqb}
 use borrow.Author.Needs.{needs}
 use borrow.Author.Tests.{eq-eqb, ne-eqb}
 use Rattle.codec.specs.Bytes.{splice}
-use Rattle.codec.specs.Lists.{and-stop, and-go, passed, failed}
+use Rattle.codec.specs.Lists.{and-stop, and-go, passed, failed, and-both}
 use Rattle.numbers.specs.Nodes.{has, without}
-use Rattle.document.specs.Reading.{and-both}
 use Rattle.answers.specs.Answers.{refuses, does}
 use Rattle.service.specs.Acknowledging.{within, slot-refused, slot-cleared, slot-written}
 use Rattle.service.proofs.acknowledged.clear_slot.Statement.{statement}

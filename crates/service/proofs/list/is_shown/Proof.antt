@@ -5,8 +5,8 @@ use lib.Dec.{eqb}
 use borrow.Author.Tests.{eq-eqb, ne-eqb}
 use borrow.Author.Needs.{needs}
 use Rattle.codec.specs.Lists.{and-stop, and-go}
+use Rattle.document.specs.Reading.{live-at}
 use Rattle.table.specs.Slots.{directory-at}
-use Rattle.service.specs.Listing.{live-at}
 use Rattle.service.proofs.list.is_shown.Statement.{statement}
 use Rattle.service.proofs.list.is_shown.Tie as tie
 

@@ -7,10 +7,10 @@ use borrow.Author.Needs.{needs}
 use mathlib.Core.List.{List}
 use lib.ListN.{length}
 use Rattle.codec.specs.Bytes.{splice}
-use Rattle.codec.specs.Laws.{splice-none}
 use Rattle.records.specs.Entries.{entryBytes}
 use Rattle.document.specs.Tables.{rows}
-use Rattle.service.specs.Listing.{shownAt, shownIn, shown-none, length-more, length-fewer, rows-none, written-more}
+use Rattle.document.specs.Rows.{rows-end}
+use Rattle.service.specs.Listing.{shownAt, shownIn, shown-none, length-more, length-fewer, written-more}
 use Rattle.service.proofs.list.write_shown.Statement.{statement}
 use Rattle.service.proofs.list.write_shown.Tie as tie
 
@@ -29,7 +29,7 @@ loop-holds c =
       search needs,
       sym (ap length none),
       refl,
-      splice-none (a .out .now) 0 ∙ ap (splice (a .out .now) 0) (sym (ap (rows entryBytes) none ∙ rows-none)),
+      rows-end entryBytes (a .out .now) 0 none,
     )
 
 write-slot-requires : tie.Need-write-slot-requires Inv-loop μ-loop

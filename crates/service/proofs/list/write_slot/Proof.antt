@@ -11,7 +11,8 @@ use Rattle.codec.specs.Laws.{splice-none}
 use Rattle.records.specs.declared.entry.Entry.{Entry}
 use Rattle.records.specs.Entries.{entryBytes}
 use Rattle.document.specs.Tables.{rows}
-use Rattle.service.specs.Listing.{not-shown, is-shown, rows-none, rows-one}
+use Rattle.document.specs.Rows.{rows-none, rows-one}
+use Rattle.service.specs.Listing.{not-shown, is-shown}
 use Rattle.service.proofs.list.write_slot.Statement.{statement}
 use Rattle.service.proofs.list.write_slot.Tie as tie
 
@@ -23,7 +24,7 @@ returns c =
     let a = c .before .before .before .before .args in
     let none =
     not-shown (a .t .now) (a .directory) (a .s) (failed (c .before .is-shown .ensures) (c .if1 .taken)) in
-    let bytes = ap (rows entryBytes) none ∙ rows-none in (
+    let bytes = ap (rows entryBytes) none ∙ rows-none entryBytes in (
       omega (arith, ap length none),
       splice-none (a .out .now) (32 * a .n) ∙ ap (splice (a .out .now) (32 * a .n)) (sym bytes),
     )
@@ -61,7 +62,7 @@ returns-2 c =
     is-shown (a .t .now) (a .directory) (a .s)
     (passed (c .before .before .before .before .before .before .is-shown .ensures)
     (c .before .before .before .before .before .if1 .left)) in
-    let bytes = ap (rows entryBytes) one ∙ rows-one _ in
+    let bytes = ap (rows entryBytes) one ∙ rows-one entryBytes _ in
     let read = c .before .before .before .before .read .ensures in (
       omega (arith, ap length one),
       c .before .before .write .ensures

@@ -5,7 +5,8 @@ use borrow.Author.Needs.{needs}
 use Rattle.codec.specs.Lists.{passed, failed}
 use Rattle.document.specs.Tables.{tableOf, slotsFrom, replicaIn, replicasUsed}
 use Rattle.document.specs.Calls.{pendingSum}
-use Rattle.answers.specs.Answers.{answerOf, not-sound, is-sound, sound-length}
+use Rattle.document.specs.Reading.{sound-length}
+use Rattle.answers.specs.Answers.{answerOf, not-sound, is-sound}
 use Rattle.service.proofs.pending.pending.Statement.{statement}
 use Rattle.service.proofs.pending.pending.Tie as tie
 

@@ -1,6 +1,6 @@
--- `service::push::push` meets its contract: not sound; no other node; not an id; not held; what is held.
+-- `service::push::push` meets its contract: not sound; no other node; not held; what is held.
 -- Assumes nothing.
-use mathlib.Core.Path.{_≡_, ap, sym, subst, _∙_}
+use mathlib.Core.Path.{_≡_, refl, ap, sym, subst, _∙_}
 use mathlib.Core.Bool.{true, false}
 use mathlib.Core.Option.{some}
 use Prim.Native.Nat.{ℕ, _<_}
@@ -12,19 +12,17 @@ use borrow.Author.Needs.{needs}
 use Rattle.codec.specs.Lists.{passed, failed}
 use Rattle.numbers.specs.Nodes.{isNode}
 use Rattle.slots.specs.declared.replica.Replica.{Replica}
-use Rattle.document.specs.Tables.{find, replicaIn, tableOf}
+use Rattle.document.specs.Tables.{find, replicaIn, replicasUsed, tableOf}
 use Rattle.document.specs.Sound.{soundBytes}
 use Rattle.document.specs.Outcomes.{Outcome, outputAfter}
 use Rattle.document.specs.Calls.{push, pushIn}
+use Rattle.document.specs.Reading.{few-replicas, own-at, sound-length}
 use Rattle.table.specs.Ranges.{nodes-at}
-use Rattle.table.specs.Slots.{firstReplica}
 use Rattle.pushes.specs.Pushing.{replica-found}
 use Rattle.pushes.specs.Writing.{Held}
-use Rattle.steps.specs.Standing.{own-at}
-use Rattle.service.specs.Acknowledging.{not-found}
-use Rattle.answers.specs.Answers.{answerOf, not-sound, is-sound, sound-length}
-use Rattle.answers.specs.Held.{not-an-id}
+use Rattle.answers.specs.Answers.{answerOf, not-sound, is-sound}
 use Rattle.answers.specs.Outputs.{refused-out}
+use Rattle.changes.specs.Looking.{slot-found, slot-none}
 use Rattle.service.specs.Pushing.{push-no-node, push-to-own, push-not-held, none-held, node-small}
 use Rattle.service.proofs.push.push.Statement.{statement}
 use Rattle.service.proofs.push.push.Tie as tie
@@ -70,7 +68,7 @@ apart c = ne-eqb _ _ (λ e. c .if3 .left (e ∙ sym (own (c .before))))
 
 -- the places before what was found
 abbrev three : tie.After-found → tie.Else3
-three c = c .before .before .before .before .before
+three c = c .before .before .before
 
 abbrev one : tie.After-found → tie.Else1
 one c = three c .before .before .before .before .before
@@ -84,11 +82,9 @@ found : (c : tie.After-found) →
 found c =
     let a = start (one c) .args in
     let l = a .table .now in
-    let used = c .before .before .before .replicas-used in
-    let f =
-    replica-found l (used .result) (a .id) _ (used .ensures .0)
-    (sym (c .before .before .replica .ensures) ∙ c .found .given .1) in
-    (omega (arith, f .0, used .ensures .1), f .1, f .2, ap (λ (i : ℕ). find i (tableOf l .replicas)) (f .1) ∙ f .2)
+    let e = slot-found l (a .id) _ (sym (c .before .before .slot-of .ensures) ∙ c .found .given .1) in
+    let f = replica-found l (replicasUsed l) (a .id) _ refl (e .1) in
+    (omega (arith, f .0, few-replicas l), f .1, f .2, ap (λ (i : ℕ). find i (tableOf l .replicas)) (f .1) ∙ f .2)
 
 is-sound-requires : tie.Need-is-sound-requires
 is-sound-requires c κs = search needs
@@ -131,31 +127,8 @@ returns-3 c =
     ∙ push-to-own (a .id) (a .node) (length (a .out .now)) (tableOf (a .table .now)) (member two)
     (eq-eqb _ _ (c .if3 .taken ∙ own (c .before))))
 
-returns-4 : tie.Need-returns-4
-returns-4 c =
-    let three = c .before in
-    let two = three .before .before in
-    let one = two .before .before .before in
-    let a = start one .args in
-    let known = one .before .before .before .shared-slice-known in
-    refused-out (a .out .now) 6
-    (opened one
-    ∙ push-not-held (a .id) (a .node) (length (a .out .now)) (tableOf (a .table .now)) (member two) (apart three)
-    (none-held _ (not-an-id (a .table .now) (a .id)
-    (λ i. omega (arith, known .given i)) (c .if4 .taken))))
-
-replicas-used-requires : tie.Need-replicas-used-requires
-replicas-used-requires c κs = sound-length _ (sound (c .before .before .before .before .before .before))
-
-cast-replica : tie.Need-cast-replica
-cast-replica c = search needs
-
-replica-requires : tie.Need-replica-requires
-replica-requires c κs = (
-  sound-length _ (sound (c .before .before .before .before .before .before .before)),
-  search
-      needs,
-)
+slot-of-requires : tie.Need-slot-of-requires
+slot-of-requires c κs = sound-length _ (sound (c .before .before .before .before .before))
 
 enum-known-found : tie.Need-enum-known-found
 enum-known-found c = search needs
@@ -163,19 +136,18 @@ enum-known-found c = search needs
 enum-told : tie.Need-enum-told
 enum-told c = search needs
 
-returns-5 : tie.Need-returns-5
-returns-5 c =
-    let used = c .before .before .before in
-    let three = used .before .before in
+returns-4 : tie.Need-returns-4
+returns-4 c =
+    let three = c .before .before .before in
     let two = three .before .before in
     let one = two .before .before .before in
     let a = start one .args in
+    let known = one .before .before .before .shared-slice-known in
     refused-out (a .out .now) 6
     (opened one
     ∙ push-not-held (a .id) (a .node) (length (a .out .now)) (tableOf (a .table .now)) (member two) (apart three)
-    (not-found (a .table .now) (a .id)
-    (ap (λ (m : ℕ). firstReplica (a .table .now) m (a .id)) (sym (used .replicas-used .ensures .0))
-    ∙ sym (c .before .before .replica .ensures) ∙ c .enum-told .given .1)))
+    (none-held _ (slot-none (a .table .now) (a .id) (λ i. omega (arith, known .given i))
+    (sym (c .before .before .slot-of .ensures) ∙ c .enum-told .given .1))))
 
 mul-read : tie.Need-mul-read
 mul-read c = omega (arith, found (c .before) .0)
@@ -209,8 +181,8 @@ push-held-requires c κs =
 same-length : tie.Need-same-length
 same-length c = search needs
 
-returns-6 : tie.Need-returns-6
-returns-6 c =
+returns-5 : tie.Need-returns-5
+returns-5 c =
     let e = c .before .before in
     let f = e .before .before .before .before in
     let a = start (one f) .args in
@@ -235,17 +207,14 @@ push-spec =
     get-u8-requires-2
     cast-if3
     returns-3
-    returns-4
-    replicas-used-requires
-    cast-replica
-    replica-requires
+    slot-of-requires
     enum-known-found
     enum-told
-    returns-5
+    returns-4
     mul-read
     add-read
     read-requires
     cast-push-held
     push-held-requires
     same-length
-    returns-6)
+    returns-5)

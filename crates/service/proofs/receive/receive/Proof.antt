@@ -5,9 +5,10 @@ use mathlib.Core.Path.{ap, sym, _∙_}
 use Prim.Native.Nat.{ℕ}
 use lib.ListN.{length}
 use Rattle.codec.specs.Lists.{passed, failed}
+use Rattle.document.specs.Reading.{sound-length}
 use Rattle.table.specs.Ranges.{nodes-at}
 use Rattle.pushes.specs.Judging.{isPush}
-use Rattle.answers.specs.Answers.{not-sound, sound-length}
+use Rattle.answers.specs.Answers.{not-sound}
 use Rattle.changes.specs.Working.{nodes-few}
 use Rattle.service.specs.Receiving.{refused-parts, received-parts, receives, call-2, call-3, call-4, call-takes}
 use Rattle.service.proofs.receive.receive.Statement.{statement}

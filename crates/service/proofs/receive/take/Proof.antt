@@ -4,7 +4,7 @@ use native.Mathlib.Omega.{arith}
 use mathlib.Core.Path.{sym, _∙_}
 use mathlib.Core.Bool.{true, false}
 use borrow.Author.Tests.{eq-eqb, ne-eqb}
-use Rattle.answers.specs.Answers.{sound-length}
+use Rattle.document.specs.Reading.{sound-length}
 use Rattle.service.specs.Receiving.{refuses-all, is-read, long-enough, addressed, other-node, at-odds, merges, take-refused, take-done}
 use Rattle.service.proofs.receive.take.Statement.{statement}
 use Rattle.service.proofs.receive.take.Tie as tie

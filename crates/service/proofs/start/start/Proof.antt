@@ -4,10 +4,10 @@ use mathlib.Core.Path.{sym}
 use native.Mathlib.Omega.{arith}
 use borrow.Author.Needs.{needs}
 use borrow.Author.Tests.{eq-eqb, ne-eqb}
-use Rattle.codec.specs.Lists.{and-stop, and-go, passed, failed}
-use Rattle.document.specs.Reading.{and-both}
+use Rattle.codec.specs.Lists.{and-stop, and-go, passed, failed, and-both}
+use Rattle.numbers.specs.Laws.{size-most, node-most}
 use Rattle.answers.specs.Answers.{refuses, does}
-use Rattle.service.specs.Starting.{size-most, node-most, start-1, start-2, start-done}
+use Rattle.service.specs.Starting.{start-1, start-2, start-done}
 use Rattle.service.proofs.start.start.Statement.{statement}
 use Rattle.service.proofs.start.start.Tie as tie
 

@@ -1,6 +1,6 @@
 -- `steps::join::is_room` meets its contract. Assumes nothing.
 use native.Mathlib.Omega.{arith}
-use Rattle.steps.specs.Standing.{few-entries}
+use Rattle.document.specs.Reading.{few-entries}
 use Rattle.steps.specs.Joining.{no-room, room-test}
 use Rattle.steps.proofs.join.is_room.Statement.{statement}
 use Rattle.steps.proofs.join.is_room.Tie as tie

@@ -6,7 +6,7 @@ use Rattle.table.specs.declared.find.Found.{Found}
 use Rattle.document.specs.Tables.{entryIn}
 use Rattle.table.specs.Slots.{found-slot}
 use Rattle.document.specs.Sound.{sameKey}
-use Rattle.steps.specs.Standing.{few-entries}
+use Rattle.document.specs.Reading.{few-entries}
 use Rattle.steps.specs.Joining.{joinedAt, joins-so}
 use Rattle.steps.proofs.join.join.Statement.{statement}
 use Rattle.steps.proofs.join.join.Tie as tie

@@ -2,7 +2,8 @@
 use borrow.Author.Needs.{needs}
 use native.Mathlib.Omega.{arith}
 use Rattle.records.specs.Heads.{HeadFit}
-use Rattle.steps.specs.Standing.{moved, never, few-replicas}
+use Rattle.document.specs.Reading.{few-replicas}
+use Rattle.steps.specs.Standing.{moved, never}
 use Rattle.steps.specs.Putting.{put-full, put-next}
 use Rattle.steps.proofs.put.add.Statement.{statement}
 use Rattle.steps.proofs.put.add.Tie as tie

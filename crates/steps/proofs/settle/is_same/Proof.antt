@@ -4,7 +4,7 @@ use native.Mathlib.Omega.{arith}
 use mathlib.Core.Path.{_∙_}
 use Prim.Native.Nat.{_-_}
 use Rattle.codec.specs.Lists.{passed, failed}
-use Rattle.steps.specs.Standing.{few-replicas, few-entries}
+use Rattle.document.specs.Reading.{few-replicas, few-entries}
 use Rattle.steps.specs.Settling.{same-parts, is-new, is-renewed, is-kept}
 use Rattle.steps.proofs.settle.is_same.Statement.{statement}
 use Rattle.steps.proofs.settle.is_same.Tie as tie

@@ -7,9 +7,10 @@ use Rattle.numbers.specs.Nodes.{without}
 use Rattle.codec.specs.Bytes.{splice}
 use Rattle.slots.specs.declared.replica.Replica.{Replica}
 use Rattle.slots.specs.Replicas.{replicaBytes}
-use Rattle.steps.specs.Standing.{moved, never, few-replicas, own-at}
+use Rattle.steps.specs.Standing.{moved, never}
 use Rattle.steps.specs.Settling.{raised-is, slot-kept, slot-past, slot-raised}
 use Rattle.document.specs.Tables.{tableOf}
+use Rattle.document.specs.Reading.{few-replicas, own-at}
 use Rattle.steps.proofs.settle.settle_slot.Statement.{statement}
 use Rattle.steps.proofs.settle.settle_slot.Tie as tie
 

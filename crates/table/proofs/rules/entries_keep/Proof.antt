@@ -13,11 +13,11 @@ use Rattle.table.proofs.rules.entries_keep.Statement.{statement}
 use Rattle.table.proofs.rules.entries_keep.Tie as tie
 
 abbrev Inv-loop : tie.InvT-loop
-Inv-loop t m k i₀ i =
+Inv-loop t m k index i₀ i =
     (i ≤ k) × (everySlot (λ (s : ℕ). entryKeeps (tableAt t m k) (entryIn t s)) 0 k ≡ everySlot (λ (s : ℕ). entryKeeps (tableAt t m k) (entryIn t s)) i (k - i))
 
 abbrev μ-loop : tie.MeasureT-loop
-μ-loop t m k i₀ i = k - i
+μ-loop t m k index i₀ i = k - i
 
 loop-holds : tie.Need-loop-holds Inv-loop μ-loop
 loop-holds c = (search needs, simp sub-zero)

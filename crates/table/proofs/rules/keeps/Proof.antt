@@ -23,38 +23,26 @@ returns-2 c =
     (and-stop _ _ (failed (c .before .ids-unique .ensures) (c .if2 .taken))) ∙ sym (rule-tests (c .before .before .before .before .before .args .t .now)
     (c .before .before .before .before .before .args .m) (c .before .before .before .before .before .args .k))
 
-replicas-keep-requires : tie.Need-replicas-keep-requires
-replicas-keep-requires c κs = search needs
+keys-unique-requires : tie.Need-keys-unique-requires
+keys-unique-requires c κs = search needs
 
 returns-3 : tie.Need-returns-3
 returns-3 c =
     and-go _ _ (passed (c .before .before .before .before .before .root-first .ensures) (c .before .before .before .before .if1 .left))
     (and-go _ _ (passed (c .before .before .before .ids-unique .ensures) (c .before .before .if2 .left))
-    (and-stop _ _ (failed (c .before .replicas-keep .ensures) (c .if3 .taken)))) ∙ sym (rule-tests (c .before .before .before .before .before .before .before .args .t .now)
+    (and-stop _ _ (failed (c .before .keys-unique .ensures) (c .if3 .taken)))) ∙ sym (rule-tests (c .before .before .before .before .before .before .before .args .t .now)
     (c .before .before .before .before .before .before .before .args .m) (c .before .before .before .before .before .before .before .args .k))
 
-entries-keep-requires : tie.Need-entries-keep-requires
-entries-keep-requires c κs = search needs
+slots-keep-requires : tie.Need-slots-keep-requires
+slots-keep-requires c κs =
+    (search needs, search needs, search needs, passed (c .before .before .before .ids-unique .ensures) (c .before .before .if2 .left), passed (c .before .keys-unique .ensures) (c .if3 .left))
 
 returns-4 : tie.Need-returns-4
 returns-4 c =
-    and-go _ _ (passed (c .before .before .before .before .before .before .before .root-first .ensures) (c .before .before .before .before .before .before .if1 .left))
-    (and-go _ _ (passed (c .before .before .before .before .before .ids-unique .ensures) (c .before .before .before .before .if2 .left))
-    (and-go _ _ (passed (c .before .before .before .replicas-keep .ensures) (c .before .before .if3 .left))
-    (and-stop _ _ (failed (c .before .entries-keep .ensures) (c .if4 .taken))))) ∙ sym (rule-tests (c .before .before .before .before .before .before .before .before .before .args .t .now)
-    (c .before .before .before .before .before .before .before .before .before .args .m) (c .before .before .before .before .before .before .before .before .before .args .k))
-
-keys-unique-requires : tie.Need-keys-unique-requires
-keys-unique-requires c κs = search needs
-
-returns-5 : tie.Need-returns-5
-returns-5 c =
-    and-go _ _ (passed (c .before .before .before .before .before .before .before .before .root-first .ensures)
-    (c .before .before .before .before .before .before .before .if1 .left)) (and-go _ _ (passed (c .before .before .before .before .before .before .ids-unique .ensures)
-    (c .before .before .before .before .before .if2 .left)) (and-go _ _ (passed (c .before .before .before .before .replicas-keep .ensures)
-    (c .before .before .before .if3 .left)) (and-go _ _ (passed (c .before .before .entries-keep .ensures) (c .before .if4 .left))
-    (c .keys-unique .ensures)))) ∙ sym (rule-tests (c .before .before .before .before .before .before .before .before .before .before .args .t .now)
-    (c .before .before .before .before .before .before .before .before .before .before .args .m) (c .before .before .before .before .before .before .before .before .before .before .args .k))
+    and-go _ _ (passed (c .before .before .before .before .before .before .root-first .ensures) (c .before .before .before .before .before .if1 .left))
+    (and-go _ _ (passed (c .before .before .before .before .ids-unique .ensures) (c .before .before .before .if2 .left))
+    (and-go _ _ (passed (c .before .before .keys-unique .ensures) (c .before .if3 .left)) (c .slots-keep .ensures))) ∙ sym (rule-tests (c .before .before .before .before .before .before .before .before .args .t .now)
+    (c .before .before .before .before .before .before .before .before .args .m) (c .before .before .before .before .before .before .before .before .args .k))
 
 pub keeps-spec : {M : Type 1} → statement M
 keeps-spec =
@@ -64,9 +52,7 @@ keeps-spec =
     returns
     ids-unique-requires
     returns-2
-    replicas-keep-requires
-    returns-3
-    entries-keep-requires
-    returns-4
     keys-unique-requires
-    returns-5)
+    returns-3
+    slots-keep-requires
+    returns-4)

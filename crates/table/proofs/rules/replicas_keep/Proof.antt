@@ -13,23 +13,33 @@ use Rattle.table.proofs.rules.replicas_keep.Statement.{statement}
 use Rattle.table.proofs.rules.replicas_keep.Tie as tie
 
 abbrev Inv-loop : tie.InvT-loop
-Inv-loop t m k i₀ i =
+Inv-loop t m k index counts places i₀ i =
     (i ≤ m) × (everySlot (λ (s : ℕ). replicaKeeps (tableAt t m k) (replicaIn t s)) 0 m ≡ everySlot (λ (s : ℕ). replicaKeeps (tableAt t m k) (replicaIn t s)) i (m - i))
 
 abbrev μ-loop : tie.MeasureT-loop
-μ-loop t m k i₀ i = m - i
+μ-loop t m k index counts places i₀ i = m - i
 
 loop-holds : tie.Need-loop-holds Inv-loop μ-loop
 loop-holds c = (search needs, simp sub-zero)
 
+mul-replica-keeps : tie.Need-mul-replica-keeps Inv-loop μ-loop
+mul-replica-keeps c = search needs
+
+element-copy-out-replica-keeps : tie.Need-element-copy-out-replica-keeps Inv-loop μ-loop
+element-copy-out-replica-keeps c = search needs
+
+element-copy-out-replica-keeps-2 : tie.Need-element-copy-out-replica-keeps-2 Inv-loop μ-loop
+element-copy-out-replica-keeps-2 c = search needs
+
 replica-keeps-requires : tie.Need-replica-keeps-requires Inv-loop μ-loop
-replica-keeps-requires c κs = search needs
+replica-keeps-requires c κs =
+    (search needs, search needs, search needs, search needs, search needs, search needs, c .before .before .before .before .before .pre .5 .1 _ (c .before .before .loop-test .taken))
 
 returns : tie.Need-returns Inv-loop μ-loop
 returns c =
-    let l = c .before .before .before .loop in
+    let l = c .before .before .before .before .before .loop in
     and-stop _ _ (failed (c .before .replica-keeps .ensures) (c .if1 .taken))
-    ∙ sym (l .inv .1 ∙ slots-step _ _ _ (c .before .before .loop-test .taken))
+    ∙ sym (l .inv .1 ∙ slots-step _ _ _ (c .before .before .before .before .loop-test .taken))
 
 add-i : tie.Need-add-i Inv-loop μ-loop
 add-i c = search needs
@@ -39,8 +49,8 @@ loop-less c = search needs
 
 loop-again : tie.Need-loop-again Inv-loop μ-loop
 loop-again c =
-    let l = c .before .before .before .loop in
-    (omega arith, l .inv .1 ∙ slots-step _ _ _ (c .before .before .loop-test .taken) ∙ sym (and-go _ _ (passed (c .before .replica-keeps .ensures) (c .if1 .left)) refl))
+    let l = c .before .before .before .before .before .loop in
+    (omega arith, l .inv .1 ∙ slots-step _ _ _ (c .before .before .before .before .loop-test .taken) ∙ sym (and-go _ _ (passed (c .before .replica-keeps .ensures) (c .if1 .left)) refl))
 
 returns-2 : tie.Need-returns-2 Inv-loop μ-loop
 returns-2 c = sym (c .before .loop .inv .1 ∙ slots-none _ _ _ (c .loop-test .left))
@@ -52,6 +62,9 @@ replicas-keep-spec =
     Inv-loop
     μ-loop
     loop-holds
+    mul-replica-keeps
+    element-copy-out-replica-keeps
+    element-copy-out-replica-keeps-2
     replica-keeps-requires
     returns
     add-i
