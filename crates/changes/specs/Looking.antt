@@ -11,7 +11,7 @@ use lib.Dec.{eqb, ltb}
 use borrow.Author.Tests.{lt-ltb, le-ltb, ltb-true, ltb-false}
 use Rattle.codec.specs.Bytes.{u8At, u32At, Bytes}
 use Rattle.names.specs.declared.Name.{Name}
-use Rattle.names.specs.Names.{sameName, nameAt}
+use Rattle.names.specs.Names.{sameName}
 use Rattle.records.specs.declared.head.Head.{Head}
 use Rattle.records.specs.Heads.{headAt, head-fields}
 use Rattle.slots.specs.declared.replica.Replica.{Replica}
@@ -24,7 +24,7 @@ use Rattle.document.specs.Reading.{few-replicas, live-at}
 use Rattle.answers.specs.Held.{not-an-id}
 use Rattle.table.specs.declared.find.Found.{Found}
 use Rattle.table.specs.declared.find.Found.the-variants.{At, Nothing}
-use Rattle.table.specs.Slots.{firstReplica, directory-at, name-at}
+use Rattle.table.specs.Slots.{firstReplica, directory-at}
 use Rattle.steps.specs.Standing.{found-head, not-found}
 
 -- ---- the slot that a number names; one past 2^32-1 names none
@@ -87,6 +87,14 @@ isShownIn d x = eqb (x .directory) d && isShown x
 abbrev pub isChildOf : ℕ → Replica → Bool
 isChildOf d r = eqb (r .head .directory) d && (isLive (r .head) && not (isRootId (r .head)))
 
+-- a taken name is that of a live entry of the directory
+pub taken-shown : (d : ℕ) (name : Name) (x : Listed) → isTakenBy d name x ≡ (isShownIn d x && sameName (x .entry .name) name)
+taken-shown d name x = go (eqb (x .directory) d)
+  where
+    go : (b : Bool) → (b && (isShown x && sameName (x .entry .name) name)) ≡ ((b && isShown x) && sameName (x .entry .name) name)
+    go true = refl
+    go false = refl
+
 taken-slots : (d : ℕ) (name : Name) (g : ℕ → Listed) (s n : ℕ) → nameTaken d name (slotsFrom g s n) ≡ anySlot (λ (i : ℕ). isTakenBy d name (g i)) s n
 unfolding nameTaken slotsFrom anySlot
 taken-slots d name g s zero = refl
@@ -122,11 +130,6 @@ child-any l m d u =
     child-slots d (replicaIn l) 0 (replicasUsed l) ∙ ap (anySlot (λ (i : ℕ). isChildOf d (replicaIn l i)) 0) (sym u ∙ sym (sub-zero m))
 
 -- the tests, over the fields where they stand
-pub taken-test : (l : List ℕ) (d : ℕ) (name : Name) (s : ℕ) →
-    isTakenBy d name (entryIn l s)
-    ≡ (eqb (u32At l (entrySlot s + 32)) d && (eqb (u8At l (entrySlot s + 2)) 1 && sameName (nameAt l (entrySlot s + 16)) name))
-taken-test l d name s = rw (directory-at l s, live-at l s, name-at l s) refl
-
 pub shown-test : (l : List ℕ) (d s : ℕ) →
     isShownIn d (entryIn l s) ≡ (eqb (u32At l (entrySlot s + 32)) d && eqb (u8At l (entrySlot s + 2)) 1)
 shown-test l d s = rw (directory-at l s, live-at l s) refl

@@ -21,18 +21,27 @@ pub fn slot_of(t: &[u8], id: u64) -> Found
     find::replica(t, find::replicas_used(t), id as u32)
 }
 
-// Whether entry slot s is a live entry of the directory with that name.
-fn takes_name(t: &[u8], s: usize, directory: u32, name: Name) -> bool
+// Whether entry slot s is a live entry of the directory.
+pub fn shows(t: &[u8], s: usize, directory: u32) -> bool
     requires { ⌜ (13344 ≤ length (now t)) × (s < 256) ⌝ }
-    ensures { λ r. ⌜ r ≡ isTakenBy directory name (entryIn (now (t .entry)) s) ⌝ }
+    ensures { λ r. ⌜ r ≡ isShownIn directory (entryIn (now (t .entry)) s) ⌝ }
 {
     let o = 3104 + 40 * s;
     if codec::get_u32(t, o + 32) != directory {
         return false;
     }
-    if codec::get_u8(t, o + 2) != 1 {
+    codec::get_u8(t, o + 2) == 1
+}
+
+// Whether entry slot s is a live entry of the directory with that name.
+fn takes_name(t: &[u8], s: usize, directory: u32, name: Name) -> bool
+    requires { ⌜ (13344 ≤ length (now t)) × (s < 256) ⌝ }
+    ensures { λ r. ⌜ r ≡ isTakenBy directory name (entryIn (now (t .entry)) s) ⌝ }
+{
+    if !shows(t, s, directory) {
         return false;
     }
+    let o = 3104 + 40 * s;
     Name::read(t, o + 16).same(name)
 }
 
@@ -49,18 +58,6 @@ pub fn is_name_taken(t: &[u8], k: usize, directory: u32, name: Name) -> bool
         i += 1;
     }
     false
-}
-
-// Whether entry slot s is a live entry of the directory.
-fn shows(t: &[u8], s: usize, directory: u32) -> bool
-    requires { ⌜ (13344 ≤ length (now t)) × (s < 256) ⌝ }
-    ensures { λ r. ⌜ r ≡ isShownIn directory (entryIn (now (t .entry)) s) ⌝ }
-{
-    let o = 3104 + 40 * s;
-    if codec::get_u32(t, o + 32) != directory {
-        return false;
-    }
-    codec::get_u8(t, o + 2) == 1
 }
 
 // Whether one of k entries is live and of the directory.

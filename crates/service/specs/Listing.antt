@@ -21,13 +21,11 @@ use Rattle.document.specs.Sound.{isLive, isDirectory}
 use Rattle.document.specs.Outcomes.{refused, done, judged}
 use Rattle.document.specs.Calls.{isShown, listing, listIn}
 use Rattle.document.specs.Rows.{rows-written}
+use Rattle.changes.specs.Looking.{isShownIn}
 
--- slot s is a live entry of the directory, and what it adds to the list
-abbrev pub isShownIn : List ℕ → ℕ → ℕ → Bool
-isShownIn l d s = eqb (entryIn l s .directory) d && isShown (entryIn l s)
-
+-- what slot s adds to the list
 unfoldable pub shownAt : List ℕ → ℕ → ℕ → List Entry
-shownAt l d s = cond (isShownIn l d s) (entryIn l s .entry ∷ []) []
+shownAt l d s = cond (isShownIn d (entryIn l s)) (entryIn l s .entry ∷ []) []
 
 -- what the first n slots show
 abbrev pub shownIn : List ℕ → ℕ → ℕ → List Entry
@@ -83,11 +81,11 @@ length-fewer l d i k h =
     )
 
 -- a slot that is not shown, and one that is
-pub not-shown : (l : List ℕ) (d s : ℕ) → isShownIn l d s ≡ false → shownAt l d s ≡ []
+pub not-shown : (l : List ℕ) (d s : ℕ) → isShownIn d (entryIn l s) ≡ false → shownAt l d s ≡ []
 unfolding shownAt
 not-shown l d s e = ap (λ (b : Bool). cond b (entryIn l s .entry ∷ []) []) e
 
-pub is-shown : (l : List ℕ) (d s : ℕ) → isShownIn l d s ≡ true → shownAt l d s ≡ entryAt l (entrySlot s) ∷ []
+pub is-shown : (l : List ℕ) (d s : ℕ) → isShownIn d (entryIn l s) ≡ true → shownAt l d s ≡ entryAt l (entrySlot s) ∷ []
 unfolding shownAt
 is-shown l d s e =
     ap (λ (b : Bool). cond b (entryIn l s .entry ∷ []) []) e

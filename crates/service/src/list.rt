@@ -14,19 +14,7 @@ ghost use Rattle.records.specs.Entries.{entryBytes};
 ghost use Rattle.document.specs.Tables.{headOf, rows, tableOf};
 ghost use Rattle.document.specs.Calls.{list, listIn};
 ghost use Rattle.answers.specs.Contracts.{Answered, Writes};
-ghost use Rattle.service.specs.Listing.{isShownIn, shownAt, shownIn};
-
-// Whether entry slot s is a live entry of the directory.
-fn is_shown(t: &[u8], s: usize, directory: u32) -> bool
-    requires { ⌜ (13344 ≤ length (now t)) × (s < 256) ⌝ }
-    ensures { λ r. ⌜ r ≡ isShownIn (now (t .entry)) directory s ⌝ }
-{
-    let o = 3104 + 40 * s;
-    if codec::get_u32(t, o + 32) != directory {
-        return false;
-    }
-    codec::get_u8(t, o + 2) == 1
-}
+ghost use Rattle.service.specs.Listing.{shownAt, shownIn};
 
 // How many of k entry slots are live entries of the directory.
 fn shown_in(t: &[u8], k: usize, directory: u32) -> usize
@@ -36,7 +24,7 @@ fn shown_in(t: &[u8], k: usize, directory: u32) -> usize
     let mut n = 0;
     let mut i = 0;
     while i < k {
-        if is_shown(t, i, directory) {
+        if look::shows(t, i, directory) {
             n += 1;
         }
         i += 1;
@@ -53,7 +41,7 @@ fn write_slot(t: &[u8], s: usize, directory: u32, out: &mut [u8], n: usize) -> u
         × (now (out .exit)
         ≡ splice (now (out .entry)) (32 * n) (rows entryBytes (shownAt (now (t .entry)) directory s))) ⌝ }
 {
-    if !is_shown(t, s, directory) {
+    if !look::shows(t, s, directory) {
         return n;
     }
     let e = Entry::read(t, 3104 + 40 * s);

@@ -1,6 +1,8 @@
-// What the nodes do in the scenes: each act makes one of the library's calls at one of the three tables, which
-// stand side by side, that of node 1 first. It prints who does what, the answer in words, and what is
-// pending then.
+// What the nodes do in the scenes: each act makes one of the library's calls at one node, and prints who does
+// what, the answer in words, and what is pending then.
+//
+// c is the cluster: three tables side by side, that of node 1 first. A reference to the array asks no proof
+// of its length; a function that lends a part of it to a call takes it as a slice.
 use crate::rounds;
 use crate::say;
 use crate::tree;
@@ -10,13 +12,14 @@ ghost use Prim.Native.Nat.{_≤_};
 ghost use lib.ListN.{length};
 
 // The table of node n.
-pub fn table(c: &[u8], n: usize) -> &[u8]
-    requires { ⌜ (40032 ≤ length (now c)) × (1 ≤ n) × (n ≤ 3) ⌝ }
+pub fn table(c: &[u8; 40032], n: usize) -> &[u8]
+    requires { ⌜ (1 ≤ n) × (n ≤ 3) ⌝ }
     ensures { λ r. ⌜ length (now r) ≡ 13344 ⌝ }
 {
+    let all = &c[..];
     let o = 13344 * (n - 1);
     let e = o + 13344;
-    &c[o..e]
+    &all[o..e]
 }
 
 // Prints who acts.
@@ -67,9 +70,7 @@ fn holders(set: u64) {
 }
 
 // Prints the answer, and what is pending.
-fn done(c: &[u8], answer: Answer)
-    requires { ⌜ 40032 ≤ length (now c) ⌝ }
-{
+fn done(c: &[u8; 40032], answer: Answer) {
     say::text(b": ");
     say::outcome(answer);
     rounds::pending(c);
@@ -85,9 +86,7 @@ fn start_at(c: &mut [u8], n: usize) -> Answer
 }
 
 // The three nodes start afresh.
-pub fn start(c: &mut [u8])
-    requires { ⌜ 40032 ≤ length (now c) ⌝ }
-{
+pub fn start(c: &mut [u8; 40032]) {
     say::text(b"  Nodes 1, 2 and 3 start: ");
     say::outcome(start_at(c, 1));
     say::text(b", ");
@@ -108,15 +107,38 @@ fn creates(t: &[u8], n: usize, time: u64, directory: u32, kind: u64, name: &[u8]
     at(time);
 }
 
-// Node n creates a file (1) or a directory (2) with that name in the directory, for all nodes, or for itself
-// if the set is empty.
-pub fn create(c: &mut [u8], n: usize, time: u64, directory: u32, kind: u64, name: &[u8], set: u64)
+// Makes the call.
+fn create_at(
+    c: &mut [u8],
+    n: usize,
+    time: u64,
+    directory: u32,
+    kind: u64,
+    name: &[u8],
+    set: u64,
+) -> Answer
     requires { ⌜ (40032 ≤ length (now c)) × (1 ≤ n) × (n ≤ 3) ⌝ }
 {
-    creates(table(c, n), n, time, directory, kind, name, set);
     let o = 13344 * (n - 1);
     let e = o + 13344;
-    let answer = service::tree::create(&mut c[o..e], time, directory as u64, kind, name, set);
+    service::tree::create(&mut c[o..e], time, directory as u64, kind, name, set)
+}
+
+// Node n creates a file (1) or a directory (2) with that name in the directory, for all nodes, or for itself
+// if the set is empty.
+pub fn create(
+    c: &mut [u8; 40032],
+    n: usize,
+    time: u64,
+    directory: u32,
+    kind: u64,
+    name: &[u8],
+    set: u64,
+)
+    requires { ⌜ (1 ≤ n) × (n ≤ 3) ⌝ }
+{
+    creates(table(c, n), n, time, directory, kind, name, set);
+    let answer = create_at(c, n, time, directory, kind, name, set);
     done(c, answer);
 }
 
@@ -132,28 +154,49 @@ fn renames(t: &[u8], n: usize, time: u64, id: u32, directory: u32, name: &[u8])
     at(time);
 }
 
-// Node n renames the file to the name in the directory.
-pub fn rename(c: &mut [u8], n: usize, time: u64, id: u32, directory: u32, name: &[u8])
+// Makes the call.
+fn rename_at(c: &mut [u8], n: usize, time: u64, id: u32, directory: u32, name: &[u8]) -> Answer
     requires { ⌜ (40032 ≤ length (now c)) × (1 ≤ n) × (n ≤ 3) ⌝ }
 {
-    renames(table(c, n), n, time, id, directory, name);
     let o = 13344 * (n - 1);
     let e = o + 13344;
-    let answer = service::tree::rename(&mut c[o..e], time, id as u64, directory as u64, name);
+    service::tree::rename(&mut c[o..e], time, id as u64, directory as u64, name)
+}
+
+// Node n renames the file to the name in the directory.
+pub fn rename(c: &mut [u8; 40032], n: usize, time: u64, id: u32, directory: u32, name: &[u8])
+    requires { ⌜ (1 ≤ n) × (n ≤ 3) ⌝ }
+{
+    renames(table(c, n), n, time, id, directory, name);
+    let answer = rename_at(c, n, time, id, directory, name);
     done(c, answer);
 }
 
-// Node n removes the directory.
-pub fn remove(c: &mut [u8], n: usize, time: u64, id: u32)
-    requires { ⌜ (40032 ≤ length (now c)) × (1 ≤ n) × (n ≤ 3) ⌝ }
+// Prints what is removed, and when.
+fn removes(t: &[u8], n: usize, time: u64, id: u32)
+    requires { ⌜ 13344 ≤ length (now t) ⌝ }
 {
     node(n);
     say::text(b" removes ");
-    target(table(c, n), id);
+    target(t, id);
     at(time);
+}
+
+// Makes the call.
+fn remove_at(c: &mut [u8], n: usize, time: u64, id: u32) -> Answer
+    requires { ⌜ (40032 ≤ length (now c)) × (1 ≤ n) × (n ≤ 3) ⌝ }
+{
     let o = 13344 * (n - 1);
     let e = o + 13344;
-    let answer = service::tree::remove(&mut c[o..e], time, id as u64);
+    service::tree::remove(&mut c[o..e], time, id as u64)
+}
+
+// Node n removes the directory.
+pub fn remove(c: &mut [u8; 40032], n: usize, time: u64, id: u32)
+    requires { ⌜ (1 ≤ n) × (n ≤ 3) ⌝ }
+{
+    removes(table(c, n), n, time, id);
+    let answer = remove_at(c, n, time, id);
     done(c, answer);
 }
 
@@ -171,8 +214,8 @@ fn tells(t: &[u8], from: usize, to: usize, time: u64, id: u32)
 }
 
 // Node `from` tells node `to` of the replica with that id.
-pub fn tell(c: &mut [u8], from: usize, to: usize, time: u64, id: u32)
-    requires { ⌜ (40032 ≤ length (now c)) × (1 ≤ from) × (from ≤ 3) × (1 ≤ to) × (to ≤ 3) ⌝ }
+pub fn tell(c: &mut [u8; 40032], from: usize, to: usize, time: u64, id: u32)
+    requires { ⌜ (1 ≤ from) × (from ≤ 3) × (1 ≤ to) × (to ≤ 3) ⌝ }
 {
     tells(table(c, from), from, to, time, id);
     let answer = rounds::tell(c, from, to, time, id, false);

@@ -21,7 +21,8 @@ fn is_among(x: &[u8], i: usize, y: &[u8], m: usize) -> bool
 
 // Whether row i of x is among the n of y, and its child is held by the same nodes in both tables.
 fn row_agrees(a: &[u8], b: &[u8], x: &[u8], i: usize, y: &[u8], n: usize) -> bool
-    requires { ⌜ (13344 ≤ length (now a)) × (13344 ≤ length (now b)) × (1024 ≤ length (now x)) × (1024 ≤ length (now y)) × (i < 32) × (n ≤ 32) ⌝ }
+    requires { ⌜ (13344 ≤ length (now a)) × (13344 ≤ length (now b))
+        × (1024 ≤ length (now x)) × (1024 ≤ length (now y)) × (i < 32) × (n ≤ 32) ⌝ }
 {
     if !is_among(x, i, y, n) {
         return false;
@@ -32,7 +33,8 @@ fn row_agrees(a: &[u8], b: &[u8], x: &[u8], i: usize, y: &[u8], n: usize) -> boo
 
 // Whether this holds of each of the n rows of x.
 fn rows_agree(a: &[u8], b: &[u8], x: &[u8], y: &[u8], n: usize) -> bool
-    requires { ⌜ (13344 ≤ length (now a)) × (13344 ≤ length (now b)) × (1024 ≤ length (now x)) × (1024 ≤ length (now y)) × (n ≤ 32) ⌝ }
+    requires { ⌜ (13344 ≤ length (now a)) × (13344 ≤ length (now b))
+        × (1024 ≤ length (now x)) × (1024 ≤ length (now y)) × (n ≤ 32) ⌝ }
 {
     let mut i = 0;
     while i < n {
@@ -86,7 +88,8 @@ fn show_others(two: &[u8], three: &[u8])
 
 // Draws what three tables show: one tree for those that show the same.
 fn show_each(one: &[u8], two: &[u8], three: &[u8])
-    requires { ⌜ (13344 ≤ length (now one)) × (13344 ≤ length (now two)) × (13344 ≤ length (now three)) ⌝ }
+    requires { ⌜ (13344 ≤ length (now one)) × (13344 ≤ length (now two))
+        × (13344 ≤ length (now three)) ⌝ }
 {
     if agree(one, two) {
         if agree(one, three) {
@@ -107,8 +110,6 @@ fn show_each(one: &[u8], two: &[u8], three: &[u8])
 }
 
 // Draws what the nodes show.
-pub fn show(c: &[u8])
-    requires { ⌜ 40032 ≤ length (now c) ⌝ }
-{
+pub fn show(c: &[u8; 40032]) {
     show_each(acts::table(c, 1), acts::table(c, 2), acts::table(c, 3));
 }

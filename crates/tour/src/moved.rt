@@ -6,8 +6,6 @@ use crate::agree;
 use crate::rounds;
 use crate::say;
 use crate::tree;
-ghost use Prim.Native.Nat.{_≤_};
-ghost use lib.ListN.{length};
 
 const ALICE: u32 = 16777217;
 
@@ -33,21 +31,21 @@ fn lesson() {
     );
 }
 
-// Nodes 1 and 2 make their directories, and node 1 the file.
-fn make(c: &mut [u8])
-    requires { ⌜ 40032 ≤ length (now c) ⌝ }
-{
+// Node 1 makes its directory and the file.
+fn make_alice(c: &mut [u8; 40032]) {
     acts::create(c, 1, 1, 0, 2, b"alice", 7);
     acts::create(c, 1, 2, 0, 1, b"foo", 7);
     rounds::quiet(c, 2);
+}
+
+// Node 2 makes its directory.
+fn make_bob(c: &mut [u8; 40032]) {
     acts::create(c, 2, 3, 0, 2, b"bob", 7);
     rounds::quiet(c, 3);
 }
 
 // Nodes 1 and 2 move the file.
-fn move_foo(c: &mut [u8])
-    requires { ⌜ 40032 ≤ length (now c) ⌝ }
-{
+fn move_foo(c: &mut [u8; 40032]) {
     acts::rename(c, 1, 12, FOO, ALICE, b"foo1");
     acts::rename(c, 2, 12, FOO, BOB, b"foo2");
     agree::show(c);
@@ -55,21 +53,18 @@ fn move_foo(c: &mut [u8])
 }
 
 // Shows what is struck out at each node.
-fn show_struck(c: &[u8])
-    requires { ⌜ 40032 ≤ length (now c) ⌝ }
-{
+fn show_struck(c: &[u8; 40032]) {
     tree::struck(acts::table(c, 1));
     tree::struck(acts::table(c, 2));
     tree::struck(acts::table(c, 3));
 }
 
 // The scene.
-pub fn scene(c: &mut [u8])
-    requires { ⌜ 40032 ≤ length (now c) ⌝ }
-{
+pub fn scene(c: &mut [u8; 40032]) {
     headline();
     acts::start(c);
-    make(c);
+    make_alice(c);
+    make_bob(c);
     move_foo(c);
     show_struck(c);
     lesson();

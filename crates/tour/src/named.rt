@@ -3,8 +3,6 @@
 use crate::acts;
 use crate::rounds;
 use crate::say;
-ghost use Prim.Native.Nat.{_≤_};
-ghost use lib.ListN.{length};
 
 const SECOND: u32 = 33554433;
 
@@ -31,27 +29,21 @@ fn lesson() {
 }
 
 // Nodes 1 and 2 make a file of one name.
-fn make(c: &mut [u8])
-    requires { ⌜ 40032 ≤ length (now c) ⌝ }
-{
+fn make(c: &mut [u8; 40032]) {
     acts::create(c, 1, 4, 0, 1, b"plan", 7);
     acts::create(c, 2, 4, 0, 1, b"plan", 7);
     rounds::quiet(c, 4);
 }
 
 // Node 3 finds the name taken; node 2 moves its own file, by its id.
-fn part(c: &mut [u8])
-    requires { ⌜ 40032 ≤ length (now c) ⌝ }
-{
+fn part(c: &mut [u8; 40032]) {
     acts::create(c, 3, 5, 0, 1, b"plan", 7);
     acts::rename(c, 2, 6, SECOND, 0, b"plan2");
     rounds::quiet(c, 6);
 }
 
 // The scene.
-pub fn scene(c: &mut [u8])
-    requires { ⌜ 40032 ≤ length (now c) ⌝ }
-{
+pub fn scene(c: &mut [u8; 40032]) {
     headline();
     acts::start(c);
     make(c);

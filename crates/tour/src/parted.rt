@@ -5,8 +5,6 @@ use crate::agree;
 use crate::rounds;
 use crate::say;
 use crate::tree;
-ghost use Prim.Native.Nat.{_≤_};
-ghost use lib.ListN.{length};
 
 const DOCS: u32 = 16777217;
 
@@ -45,46 +43,53 @@ fn lesson() {
 }
 
 // All come to hold /docs/note.
-fn make(c: &mut [u8])
-    requires { ⌜ 40032 ≤ length (now c) ⌝ }
-{
+fn make(c: &mut [u8; 40032]) {
     acts::create(c, 1, 1, 0, 2, b"docs", 7);
     acts::create(c, 1, 2, DOCS, 1, b"note", 7);
     rounds::quiet(c, 2);
 }
 
-// Both sides move the file, and go on.
-fn go_on(c: &mut [u8])
-    requires { ⌜ 40032 ≤ length (now c) ⌝ }
-{
+// Both sides move the file.
+fn move_note(c: &mut [u8; 40032]) {
     acts::rename(c, 1, 20, NOTE, DOCS, b"report");
     acts::rename(c, 3, 21, NOTE, 0, b"memo");
+}
+
+// Both sides go on.
+fn go_on(c: &mut [u8; 40032]) {
     acts::create(c, 2, 22, DOCS, 1, b"list", 7);
     acts::create(c, 3, 22, 0, 1, b"trip", 7);
 }
 
 // Rounds while node 3 is cut off: what goes to it or comes from it is lost, and stays pending.
-fn lose(c: &mut [u8])
-    requires { ⌜ 40032 ≤ length (now c) ⌝ }
-{
+fn lose(c: &mut [u8; 40032]) {
     rounds::round(c, 22, true);
     rounds::round(c, 22, true);
     rounds::round(c, 22, true);
     agree::show(c);
 }
 
-// The scene.
-pub fn scene(c: &mut [u8])
-    requires { ⌜ 40032 ≤ length (now c) ⌝ }
-{
-    headline();
-    acts::start(c);
-    make(c);
+// Node 3 is cut off.
+fn part(c: &mut [u8; 40032]) {
     cut();
+    move_note(c);
     go_on(c);
     lose(c);
     remark();
+}
+
+// The link is back.
+fn meet(c: &mut [u8; 40032]) {
     rounds::quiet(c, 23);
     tree::struck(acts::table(c, 1));
     lesson();
+}
+
+// The scene.
+pub fn scene(c: &mut [u8; 40032]) {
+    headline();
+    acts::start(c);
+    make(c);
+    part(c);
+    meet(c);
 }

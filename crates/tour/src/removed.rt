@@ -5,8 +5,6 @@ use crate::agree;
 use crate::rounds;
 use crate::say;
 use crate::tree;
-ghost use Prim.Native.Nat.{_≤_};
-ghost use lib.ListN.{length};
 
 const D: u32 = 16777217;
 
@@ -28,10 +26,14 @@ fn lesson() {
     );
 }
 
+// All come to hold /d.
+fn make(c: &mut [u8; 40032]) {
+    acts::create(c, 1, 1, 0, 2, b"d", 7);
+    rounds::quiet(c, 1);
+}
+
 // Node 1 makes a file in /d while node 2 removes it.
-fn part(c: &mut [u8])
-    requires { ⌜ 40032 ≤ length (now c) ⌝ }
-{
+fn part(c: &mut [u8; 40032]) {
     acts::create(c, 1, 5, D, 1, b"f", 0);
     acts::remove(c, 2, 5, D);
     agree::show(c);
@@ -39,22 +41,17 @@ fn part(c: &mut [u8])
 }
 
 // Node 1 hears that /d was removed.
-fn hear(c: &mut [u8])
-    requires { ⌜ 40032 ≤ length (now c) ⌝ }
-{
+fn hear(c: &mut [u8; 40032]) {
     acts::tell(c, 2, 1, 6, D);
     agree::show(c);
     rounds::quiet(c, 6);
 }
 
 // The scene.
-pub fn scene(c: &mut [u8])
-    requires { ⌜ 40032 ≤ length (now c) ⌝ }
-{
+pub fn scene(c: &mut [u8; 40032]) {
     headline();
     acts::start(c);
-    acts::create(c, 1, 1, 0, 2, b"d", 7);
-    rounds::quiet(c, 1);
+    make(c);
     part(c);
     hear(c);
     lesson();

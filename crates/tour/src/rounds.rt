@@ -19,9 +19,7 @@ fn pending_at(t: &[u8]) {
 }
 
 // Prints how many pushes each node has pending.
-pub fn pending(c: &[u8])
-    requires { ⌜ 40032 ≤ length (now c) ⌝ }
-{
+pub fn pending(c: &[u8; 40032]) {
     say::text(b". Pending ");
     pending_at(acts::table(c, 1));
     say::text(b", ");
@@ -39,7 +37,7 @@ fn longest_push() -> [u8; 1640]
 }
 
 // Node n receives the message.
-fn receive(c: &mut [u8], n: usize, time: u64, message: &[u8], reply: &mut [u8]) -> Answer
+fn receive_at(c: &mut [u8], n: usize, time: u64, message: &[u8], reply: &mut [u8]) -> Answer
     requires { ⌜ (40032 ≤ length (now c)) × (1 ≤ n) × (n ≤ 3) ⌝ }
 {
     let o = 13344 * (n - 1);
@@ -48,7 +46,7 @@ fn receive(c: &mut [u8], n: usize, time: u64, message: &[u8], reply: &mut [u8]) 
 }
 
 // Node n hears an acknowledgement.
-fn acknowledged(c: &mut [u8], n: usize, reply: &[u8]) -> Answer
+fn acknowledged_at(c: &mut [u8], n: usize, reply: &[u8]) -> Answer
     requires { ⌜ (40032 ≤ length (now c)) × (1 ≤ n) × (n ≤ 3) ⌝ }
 {
     let o = 13344 * (n - 1);
@@ -57,20 +55,20 @@ fn acknowledged(c: &mut [u8], n: usize, reply: &[u8]) -> Answer
 }
 
 // The second node receives the message, and the first its acknowledgement.
-fn deliver(c: &mut [u8], from: usize, to: usize, time: u64, message: &[u8]) -> Answer
-    requires { ⌜ (40032 ≤ length (now c)) × (1 ≤ from) × (from ≤ 3) × (1 ≤ to) × (to ≤ 3) ⌝ }
+fn deliver(c: &mut [u8; 40032], from: usize, to: usize, time: u64, message: &[u8]) -> Answer
+    requires { ⌜ (1 ≤ from) × (from ≤ 3) × (1 ≤ to) × (to ≤ 3) ⌝ }
 {
     let mut reply = [0u8; 16];
-    let received = receive(c, to, time, message, &mut reply);
+    let received = receive_at(c, to, time, message, &mut reply);
     if received.number != 0 {
         return received;
     }
-    acknowledged(c, from, &reply)
+    acknowledged_at(c, from, &reply)
 }
 
 // Tells it with that buffer for the message, which is lost where the link is cut.
 fn tell_by(
-    c: &mut [u8],
+    c: &mut [u8; 40032],
     from: usize,
     to: usize,
     time: u64,
@@ -78,7 +76,7 @@ fn tell_by(
     is_cut: bool,
     message: &mut [u8],
 ) -> Answer
-    requires { ⌜ (40032 ≤ length (now c)) × (1 ≤ from) × (from ≤ 3) × (1 ≤ to) × (to ≤ 3) ⌝ }
+    requires { ⌜ (1 ≤ from) × (from ≤ 3) × (1 ≤ to) × (to ≤ 3) ⌝ }
 {
     let pushed = service::push::push(acts::table(c, from), id as u64, to as u64, message);
     if pushed.number != 0 {
@@ -93,24 +91,31 @@ fn tell_by(
 
 // The first node tells the second of the replica with that id. Answers the first refusal that there is,
 // of push, receive or acknowledged.
-pub fn tell(c: &mut [u8], from: usize, to: usize, time: u64, id: u32, is_cut: bool) -> Answer
-    requires { ⌜ (40032 ≤ length (now c)) × (1 ≤ from) × (from ≤ 3) × (1 ≤ to) × (to ≤ 3) ⌝ }
+pub fn tell(c: &mut [u8; 40032], from: usize, to: usize, time: u64, id: u32, is_cut: bool) -> Answer
+    requires { ⌜ (1 ≤ from) × (from ≤ 3) × (1 ≤ to) × (to ≤ 3) ⌝ }
 {
     let mut message = longest_push();
     tell_by(c, from, to, time, id, is_cut, &mut message)
 }
 
 // The id of the replica in slot s of node n.
-fn id_at(c: &[u8], n: usize, s: usize) -> u32
-    requires { ⌜ (40032 ≤ length (now c)) × (1 ≤ n) × (n ≤ 3) × (s < 64) ⌝ }
+fn id_at(c: &[u8; 40032], n: usize, s: usize) -> u32
+    requires { ⌜ (1 ≤ n) × (n ≤ 3) × (s < 64) ⌝ }
 {
     codec::get_u32(acts::table(c, n), 32 + 48 * s + 4)
 }
 
 // Tells of the replica in slot s, and answers how many pushes were sent for it, 0 or 1. Another
 // refusal than that nothing is pending is printed.
-fn tell_slot(c: &mut [u8], from: usize, to: usize, time: u64, s: usize, is_cut: bool) -> usize
-    requires { ⌜ (40032 ≤ length (now c)) × (1 ≤ from) × (from ≤ 3) × (1 ≤ to) × (to ≤ 3) × (s < 64) ⌝ }
+fn tell_slot(
+    c: &mut [u8; 40032],
+    from: usize,
+    to: usize,
+    time: u64,
+    s: usize,
+    is_cut: bool,
+) -> usize
+    requires { ⌜ (1 ≤ from) × (from ≤ 3) × (1 ≤ to) × (to ≤ 3) × (s < 64) ⌝ }
     ensures { λ r. ⌜ r ≤ 1 ⌝ }
 {
     let told = tell(c, from, to, time, id_at(c, from, s), is_cut);
@@ -125,8 +130,8 @@ fn tell_slot(c: &mut [u8], from: usize, to: usize, time: u64, s: usize, is_cut: 
 }
 
 // The first node tells the second of all that is pending, and answers how many pushes these are.
-fn tell_all(c: &mut [u8], from: usize, to: usize, time: u64, is_cut: bool) -> usize
-    requires { ⌜ (40032 ≤ length (now c)) × (1 ≤ from) × (from ≤ 3) × (1 ≤ to) × (to ≤ 3) ⌝ }
+fn tell_all(c: &mut [u8; 40032], from: usize, to: usize, time: u64, is_cut: bool) -> usize
+    requires { ⌜ (1 ≤ from) × (from ≤ 3) × (1 ≤ to) × (to ≤ 3) ⌝ }
 {
     let m = find::replicas_used(acts::table(c, from));
     let mut sent = 0;
@@ -155,24 +160,35 @@ fn count(from: usize, to: usize, sent: usize, is_cut: bool) {
 }
 
 // The first node tells the second of all that is pending, and this is printed.
-fn exchange(c: &mut [u8], from: usize, to: usize, time: u64, is_cut: bool)
-    requires { ⌜ (40032 ≤ length (now c)) × (1 ≤ from) × (from ≤ 3) × (1 ≤ to) × (to ≤ 3) ⌝ }
+fn exchange(c: &mut [u8; 40032], from: usize, to: usize, time: u64, is_cut: bool)
+    requires { ⌜ (1 ≤ from) × (from ≤ 3) × (1 ≤ to) × (to ≤ 3) ⌝ }
 {
     count(from, to, tell_all(c, from, to, time, is_cut), is_cut);
 }
 
-// One round: each node in turn tells the others all that is pending. Where node 3 is cut off, what goes
-// to it or comes from it is lost.
-pub fn round(c: &mut [u8], time: u64, is_cut: bool)
-    requires { ⌜ 40032 ≤ length (now c) ⌝ }
+// A node tells two others of all that is pending, each by a link that may be cut.
+fn speak(
+    c: &mut [u8; 40032],
+    from: usize,
+    first: usize,
+    is_first_cut: bool,
+    second: usize,
+    is_second_cut: bool,
+    time: u64,
+)
+    requires { ⌜ (1 ≤ from) × (from ≤ 3) × (1 ≤ first) × (first ≤ 3) × (1 ≤ second) × (second ≤ 3) ⌝ }
 {
+    exchange(c, from, first, time, is_first_cut);
+    exchange(c, from, second, time, is_second_cut);
+}
+
+// One round: each node in turn tells the others of all that is pending. Where node 3 is cut off, what goes
+// to it or comes from it is lost.
+pub fn round(c: &mut [u8; 40032], time: u64, is_cut: bool) {
     say::text(b"  A round");
-    exchange(c, 1, 2, time, false);
-    exchange(c, 1, 3, time, is_cut);
-    exchange(c, 2, 1, time, false);
-    exchange(c, 2, 3, time, is_cut);
-    exchange(c, 3, 1, time, is_cut);
-    exchange(c, 3, 2, time, is_cut);
+    speak(c, 1, 2, false, 3, is_cut, time);
+    speak(c, 2, 1, false, 3, is_cut, time);
+    speak(c, 3, 1, is_cut, 2, is_cut, time);
     pending(c);
 }
 
@@ -186,9 +202,7 @@ fn is_silent(t: &[u8]) -> bool {
 }
 
 // Whether no node has anything pending.
-fn is_quiet(c: &[u8]) -> bool
-    requires { ⌜ 40032 ≤ length (now c) ⌝ }
-{
+fn is_quiet(c: &[u8; 40032]) -> bool {
     if !is_silent(acts::table(c, 1)) {
         return false;
     }
@@ -199,9 +213,7 @@ fn is_quiet(c: &[u8]) -> bool
 }
 
 // Rounds until nothing is pending anywhere; never more than eight. Answers whether nothing is.
-fn settle(c: &mut [u8], time: u64) -> bool
-    requires { ⌜ 40032 ≤ length (now c) ⌝ }
-{
+fn settle(c: &mut [u8; 40032], time: u64) -> bool {
     let mut turns: u64 = 0;
     while turns < 8 {
         if is_quiet(c) {
@@ -223,9 +235,7 @@ fn verdict(are_quiet: bool) {
 }
 
 // All fall quiet, and show what they hold.
-pub fn quiet(c: &mut [u8], time: u64)
-    requires { ⌜ 40032 ≤ length (now c) ⌝ }
-{
+pub fn quiet(c: &mut [u8; 40032], time: u64) {
     verdict(settle(c, time));
     agree::show(c);
 }

@@ -20,7 +20,7 @@ fn slot_of(t: &[u8], id: u32) -> usize
     s
 }
 
-// The nodes that hold the replica with that id; none, if it is not held here, where nobody tells.
+// The nodes that hold the replica with that id, as this table has it; 0 if it is not held here.
 pub fn holders(t: &[u8], id: u32) -> u8
     requires { ⌜ 13344 ≤ length (now t) ⌝ }
 {
@@ -148,7 +148,8 @@ fn cells(t: &[u8], listing: &[u8], o: usize)
 
 // Prints row i of a listing.
 fn row(t: &[u8], listing: &[u8], i: usize, is_last: bool, left: u8, bars: u64)
-    requires { ⌜ (13344 ≤ length (now t)) × (1024 ≤ length (now listing)) × (i < 32) × (left ≤ 16) ⌝ }
+    requires { ⌜ (13344 ≤ length (now t)) × (1024 ≤ length (now listing))
+        × (i < 32) × (left ≤ 16) ⌝ }
 {
     branch(bars, 16 - left, is_last);
     cells(t, listing, 32 * i);
@@ -165,7 +166,8 @@ fn listed_below(t: &[u8], listing: &[u8], i: usize, out: &mut [u8]) -> usize
 // Prints the rows of a listing from i on, and below each what is listed there. `left` is how many levels
 // may still come: it falls with each, and i rises to n.
 fn rows(t: &[u8], listing: &[u8], i: usize, n: usize, left: u8, bars: u64)
-    requires { ⌜ (13344 ≤ length (now t)) × (1024 ≤ length (now listing)) × (n ≤ 32) × (left ≤ 16) ⌝ }
+    requires { ⌜ (13344 ≤ length (now t)) × (1024 ≤ length (now listing))
+        × (n ≤ 32) × (left ≤ 16) ⌝ }
 {
     if left == 0 {
         return;
@@ -192,6 +194,7 @@ pub fn draw(t: &[u8], set: u8)
     let answer = service::list::list(t, 0, &mut listing);
     if answer.number != 0 {
         say::outcome(answer);
+        say::text(b"\n");
     }
     rows(t, &listing, 0, rows_of(answer), 16, 0);
 }

@@ -22,8 +22,8 @@ loop-holds c =
     let a = c .before .args in
     (search needs, search needs, sym (ap length (shown-none (a .t .now) (a .directory))))
 
-is-shown-requires : tie.Need-is-shown-requires Inv-loop μ-loop
-is-shown-requires c κs = search needs
+shows-requires : tie.Need-shows-requires Inv-loop μ-loop
+shows-requires c κs = search needs
 
 add-n : tie.Need-add-n Inv-loop μ-loop
 add-n c = search needs
@@ -39,7 +39,7 @@ loop-again c =
     let a = c .before .before .before .before .before .args in
     let l = c .before .before .before .loop in
     let more = length-more (a .t .now) (a .directory) (l .i) in
-    let shown = c .before .is-shown .ensures in
+    let shown = c .before .shows .ensures in
     ⊎-elim
     (λ w.
     let here = ap length (is-shown (a .t .now) (a .directory) (l .i) (sym shown ∙ w .0 .taken)) in
@@ -63,7 +63,7 @@ shown-in-spec =
     Inv-loop
     μ-loop
     loop-holds
-    is-shown-requires
+    shows-requires
     add-n
     add-i
     loop-less

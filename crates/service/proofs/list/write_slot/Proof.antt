@@ -16,14 +16,14 @@ use Rattle.service.specs.Listing.{not-shown, is-shown}
 use Rattle.service.proofs.list.write_slot.Statement.{statement}
 use Rattle.service.proofs.list.write_slot.Tie as tie
 
-is-shown-requires : tie.Need-is-shown-requires
-is-shown-requires c κs = search needs
+shows-requires : tie.Need-shows-requires
+shows-requires c κs = search needs
 
 returns : tie.Need-returns
 returns c =
     let a = c .before .before .before .before .args in
     let none =
-    not-shown (a .t .now) (a .directory) (a .s) (failed (c .before .is-shown .ensures) (c .if1 .taken)) in
+    not-shown (a .t .now) (a .directory) (a .s) (failed (c .before .shows .ensures) (c .if1 .taken)) in
     let bytes = ap (rows entryBytes) none ∙ rows-none entryBytes in (
       omega (arith, ap length none),
       splice-none (a .out .now) (32 * a .n) ∙ ap (splice (a .out .now) (32 * a .n)) (sym bytes),
@@ -46,7 +46,7 @@ write-requires c κs =
     let a = c .before .before .before .before .before .before .args in
     let one =
     is-shown (a .t .now) (a .directory) (a .s)
-    (passed (c .before .before .before .is-shown .ensures) (c .before .before .if1 .left)) in
+    (passed (c .before .before .before .shows .ensures) (c .before .before .if1 .left)) in
     omega (arith, ap length one)
 
 add-result : tie.Need-add-result
@@ -60,7 +60,7 @@ returns-2 c =
     let a = c .before .before .before .before .before .before .before .before .before .args in
     let one =
     is-shown (a .t .now) (a .directory) (a .s)
-    (passed (c .before .before .before .before .before .before .is-shown .ensures)
+    (passed (c .before .before .before .before .before .before .shows .ensures)
     (c .before .before .before .before .before .if1 .left)) in
     let bytes = ap (rows entryBytes) one ∙ rows-one entryBytes _ in
     let read = c .before .before .before .before .read .ensures in (
@@ -74,7 +74,7 @@ pub write-slot-spec : {M : Type 1} → statement M
 write-slot-spec =
     tie.close
     (tie.spec
-    is-shown-requires
+    shows-requires
     returns
     mul-read
     add-read

@@ -1,13 +1,11 @@
--- `tour::rounds::settle` is safe and ends: the tables keep their length, and turns rises. Assumes nothing.
-use mathlib.Core.Path.{_≡_}
-use Prim.Native.Nat.{_-_}
-use lib.ListN.{length}
+-- `tour::rounds::settle` is safe and ends: turns rises to 8. Assumes nothing.
+use Prim.Native.Nat.{_-_, _≤_}
 use borrow.Author.Needs.{needs}
 use Rattle.tour.proofs.rounds.settle.Statement.{statement}
 use Rattle.tour.proofs.rounds.settle.Tie as tie
 
 abbrev Inv-loop : tie.InvT-loop
-Inv-loop c₀ time turns₀ c turns = length c ≡ length c₀
+Inv-loop c₀ time turns₀ c turns = turns ≤ 8
 
 abbrev μ-loop : tie.MeasureT-loop
 μ-loop c₀ time turns₀ c turns = 8 - turns
@@ -17,9 +15,6 @@ loop-holds c = search needs
 
 is-quiet-requires : tie.Need-is-quiet-requires Inv-loop μ-loop
 is-quiet-requires c κs = search needs
-
-same-length : tie.Need-same-length Inv-loop μ-loop
-same-length c = search needs
 
 returns : tie.Need-returns Inv-loop μ-loop
 returns c = search needs
@@ -39,9 +34,6 @@ loop-again c = search needs
 is-quiet-requires-2 : tie.Need-is-quiet-requires-2 Inv-loop μ-loop
 is-quiet-requires-2 c κs = search needs
 
-same-length-2 : tie.Need-same-length-2 Inv-loop μ-loop
-same-length-2 c = search needs
-
 returns-2 : tie.Need-returns-2 Inv-loop μ-loop
 returns-2 c = search needs
 
@@ -53,12 +45,10 @@ settle-spec =
     μ-loop
     loop-holds
     is-quiet-requires
-    same-length
     returns
     round-requires
     add-turns
     loop-less
     loop-again
     is-quiet-requires-2
-    same-length-2
     returns-2)

@@ -1,14 +1,11 @@
--- `tour::rounds::tell_all` is safe and ends: the tables keep their length, s rises to m, and no more is sent than s.
--- Assumes nothing.
-use mathlib.Core.Path.{_≡_}
+-- `tour::rounds::tell_all` is safe and ends: s rises to m, and no more is sent than s. Assumes nothing.
 use Prim.Native.Nat.{_-_, _≤_}
-use lib.ListN.{length}
 use borrow.Author.Needs.{needs}
 use Rattle.tour.proofs.rounds.tell_all.Statement.{statement}
 use Rattle.tour.proofs.rounds.tell_all.Tie as tie
 
 abbrev Inv-loop : tie.InvT-loop
-Inv-loop c₀ from to time is-cut m sent₀ s₀ c sent s = (length c ≡ length c₀) × (s ≤ m) × (sent ≤ s)
+Inv-loop c₀ from to time is-cut m sent₀ s₀ c sent s = (s ≤ m) × (sent ≤ s)
 
 abbrev μ-loop : tie.MeasureT-loop
 μ-loop c₀ from to time is-cut m sent₀ s₀ c sent s = m - s
@@ -37,9 +34,6 @@ loop-less c = search needs
 loop-again : tie.Need-loop-again Inv-loop μ-loop
 loop-again c = search needs
 
-same-length : tie.Need-same-length Inv-loop μ-loop
-same-length c = search needs
-
 returns : tie.Need-returns Inv-loop μ-loop
 returns c = search needs
 
@@ -57,5 +51,4 @@ tell-all-spec =
     add-s
     loop-less
     loop-again
-    same-length
     returns)
