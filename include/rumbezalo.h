@@ -1,16 +1,22 @@
 /*
- * rumbezalo.h: the name service's eleven calls, for C and C++ on x86-64 Linux.
+ * rumbezalo.h: the name service's eleven calls, for C (C99) and C++ on x86-64 Linux.
  *
  * Link target/staticlib/libservice.a, which `rt staticlib service` writes. It needs nothing but
  * memcpy and memset.
  *
- * One to eight nodes share one tree. Each node lends a table of 13,344 bytes, which is all that the
- * service remembers: to save a node, save these bytes; to bring it back, lend them again. A node
- * changes its own table (create, unlink, rename, remove, spread), writes what it has to tell another
- * node to a message (push), takes in what another has written (receive), which yields an
- * acknowledgement for the sender, and takes in acknowledgements (acknowledged). Carrying the bytes
- * from node to node is the caller's part; messages may be lost, repeated and delayed. When pending
- * is 0 on every node, every file has one name, on every node that holds it, and a path from the root.
+ * One to eight nodes share one tree. Each node lends a table of 13,344 bytes, which is all that it
+ * remembers. A node changes its own table (create, unlink, rename, remove, spread), writes what it has
+ * to tell another node to a message (push), takes in what another has written (receive), which yields
+ * an acknowledgement for the sender, and takes in acknowledgements (acknowledged).
+ *
+ * What is the caller's part. Carrying the bytes from node to node: messages may be lost, repeated and
+ * delayed, but must arrive as they were written; they carry no checksum and no signature. Keeping the
+ * table: save what each call leaves before anything that it wrote is sent, and bring a node back with
+ * the bytes that its last call left, never with earlier ones. A node that goes back to an earlier
+ * table, or is started a second time, may leave all nodes with nothing pending and different trees.
+ * So kept, when pending is 0 on every one of the nodes 1 to N, every live file has one name, the same
+ * on every node that holds it, and a path from the root: that is proved. The silence of one node, or
+ * of some, says nothing.
  *
  * Buffers. All memory is the caller's, and lent for the time of one call: the library keeps no
  * pointer, allocates nothing and has no global state. So calls on different tables may run in
@@ -134,9 +140,11 @@ static inline const char *rumbezalo_words(unsigned number) {
  *
  * Every call but start gives 1 if the table is not sound. node is 1 to N; set is a node set, bit i-1
  * for node i and no bit above N; now is the time of the call, 0 to 2^40-1, in a unit that the nodes
- * share. Their clocks need not agree: a new stamp is above every stamp that the node has seen, and of
- * two changes that did not know of each other the one with the greater clock wins, of equal clocks
- * that of the greater node. An id may be any number; one that is none is one that is not held (6).
+ * share. Seconds since 1970 fit, milliseconds do not. Their clocks need not agree: a new stamp is above
+ * every stamp that the node has seen, and of two changes that did not know of each other the one with
+ * the greater clock wins, of equal clocks that of the greater node. A clock never goes back, and nodes
+ * learn it from each other: one call with a time near 2^40-1 leaves no clock for later changes (17), on
+ * every node that hears of it. An id may be any number; one that is none is one that is not held (6).
  * A name is name_size bytes, 1 to 15, no byte 00 or 2F ('/'), not "." and not ".."; no zero ends it.
  */
 

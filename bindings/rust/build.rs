@@ -5,6 +5,10 @@ use std::path::PathBuf;
 use std::process::exit;
 
 fn main() {
+    if env::var("CARGO_CFG_TARGET_ARCH").as_deref() != Ok("x86_64") {
+        eprintln!("The static library is for x86-64 and links into nothing else.");
+        exit(1);
+    }
     let own = env::var_os("CARGO_MANIFEST_DIR").expect("cargo sets it");
     let top = PathBuf::from(own).join("../..");
     let folder = top.canonicalize().unwrap_or(top).join("target/staticlib");

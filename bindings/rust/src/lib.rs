@@ -4,9 +4,15 @@
 //! changes its own: [`Table::create`], [`Table::unlink`], [`Table::rename`], [`Table::remove`],
 //! [`Table::spread`]. What it has to tell another node it writes to a message with [`Table::push`];
 //! the other takes it in with [`Table::receive`], which yields an acknowledgement, and that goes
-//! back to [`Table::acknowledged`]. Carrying the bytes is the caller's part: messages may be lost,
-//! repeated and delayed. When [`Table::pending`] is 0 on every node, every file has one name, on
-//! every node that holds it, and a path from the root.
+//! back to [`Table::acknowledged`].
+//!
+//! Carrying the bytes is the caller's part: messages may be lost, repeated and delayed, but must
+//! arrive as they were written; they carry no checksum and no signature. So is keeping the table:
+//! save what each call leaves before anything that it wrote is sent, and bring a node back with the
+//! bytes that its last call left, never with earlier ones. A node that goes back to an earlier table,
+//! or is started a second time, may leave all nodes with nothing pending and different trees. So
+//! kept, when [`Table::pending`] is 0 on every one of the nodes 1 to N, every live file has one name,
+//! the same on every node that holds it, and a path from the root.
 //!
 //! A call either is done or is refused, for one of seventeen reasons ([`Refusal`]), and a refusal
 //! changes nothing. Each call on a table is the library's call of that name. What the library
@@ -33,7 +39,7 @@
 //! assert_eq!(one.pending()?, 0);
 //! assert_eq!(two.list(Id::ROOT)?[0].child, file);
 //!
-//! // A directory has no two live entries with one name.
+//! // Node 2 has heard of a live entry with that name, so it cannot give the name again.
 //! let again = two.create(Clock::from(14), Id::ROOT, Kind::File, foo, both);
 //! assert_eq!(again, Err(Refusal::NameTaken));
 //! # Ok(())

@@ -177,7 +177,9 @@ impl fmt::Display for Id {
     }
 }
 
-/// A time, 0 to 2^40-1, in a unit that the nodes share. Their clocks need not agree.
+/// A time, 0 to 2^40-1, in a unit that the nodes share: seconds since 1970 fit, milliseconds do not.
+/// Their clocks need not agree. A clock never goes back, and nodes learn it from each other: one call
+/// with a time near 2^40-1 leaves no clock for later changes, on every node that hears of it.
 #[derive(Clone, Copy, Debug, PartialEq, Eq, PartialOrd, Ord, Hash)]
 pub struct Clock(u64);
 

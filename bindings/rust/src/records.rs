@@ -44,7 +44,7 @@ pub struct Replica {
     pub id: Id,
     /// When its state was made, and by whom.
     pub stamp: Stamp,
-    /// The nodes that hold it.
+    /// The nodes that hold it, or are to.
     pub holders: Nodes,
     /// How deep it stands: its place directory's depth and one.
     pub depth: u8,

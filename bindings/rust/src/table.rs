@@ -22,7 +22,8 @@ impl Table {
     /// The bytes of 32 entries, which are the most in a directory.
     const LONGEST_LIST: usize = 32 * 32;
 
-    /// The table of a node, of the nodes 1 to N: the root alone, which all nodes hold. Refused (2)
+    /// The table of a node, of the nodes 1 to N, once for a node: the root alone, which all nodes
+    /// hold. Refused (2)
     /// if N is not 1 to 8, or the node is above it.
     pub fn start(node: Node, n: u8) -> Result<Table, Refusal> {
         let mut table = Table {
@@ -32,7 +33,9 @@ impl Table {
         answer.done().map(|_| table)
     }
 
-    /// The table that was saved as these bytes. Refused (1) if they are no sound table.
+    /// The table that was saved as these bytes. Refused (1) if they are no sound table. They must be
+    /// those that the node's last call left; with earlier ones, what the service promises of all
+    /// nodes together no longer holds.
     pub fn from_bytes(bytes: &[u8]) -> Result<Table, Refusal> {
         calls::pending(bytes).done()?;
         let mut table = Table {

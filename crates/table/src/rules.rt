@@ -1,7 +1,8 @@
 // The rules of a sound table beyond the ranges, in the order of document 01. Each function judges one
 // sentence for one slot, or for all slots; a slot is read as a struct by value. But for the two
-// sentences that say what is unique, each is judged by one pass: a slot that one slot names by an id or
-// a key is found by hints, and entries are counted for all directories at once.
+// sentences that say what is unique, each is judged by one pass, where ids do not collide: a slot that
+// one slot names by an id or a key is found by hints, and entries are counted for all directories at
+// once.
 use crate::counts;
 use crate::find;
 use crate::find::Found;

@@ -4,7 +4,8 @@
 // all that is done to them is done by the library's calls.
 //
 // Proved here is that it is safe and ends. What it prints is held to `stdout`, which was read against
-// document 01; `document` has both runs computed from the definitions.
+// document 01; `document` has both runs computed from the definitions. What opens a scene, and what it
+// says at its end after "So:", is fixed text.
 mod acts;
 mod agree;
 mod moved;
@@ -26,7 +27,9 @@ fn headline() {
           is pending until it is acknowledged. In a round each node in turn sends the others all\n\
           that it has pending: \"1->2: 3\" says that node 1 sent three pushes to node 2, which took\n\
           and acknowledged them, and \"Pending 4, 0, 1\" how many pushes are then pending at nodes\n\
-          1, 2 and 3. Quiet is when none is. A stamp is 256 * clock + node.\n",
+          1, 2 and 3. A new file changes its directory too, so it is two things to tell to each of\n\
+          the others, and a node passes on what it took in. Quiet is when none is pending. A stamp\n\
+          is 256 * clock + node. Each scene is a cluster of its own.\n",
     );
 }
 
