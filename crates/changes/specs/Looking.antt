@@ -25,7 +25,7 @@ use Rattle.answers.specs.Held.{not-an-id}
 use Rattle.table.specs.declared.find.Found.{Found}
 use Rattle.table.specs.declared.find.Found.the-variants.{At, Nothing}
 use Rattle.table.specs.Slots.{firstReplica, directory-at}
-use Rattle.steps.specs.Standing.{found-head, not-found}
+use Rattle.table.specs.Rules.{found-head, not-found}
 
 -- ---- the slot that a number names; one past 2^32-1 names none
 

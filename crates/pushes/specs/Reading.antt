@@ -5,7 +5,6 @@ use mathlib.Core.Bool.{Bool, true, false, _&&_, _||_, not, cond}
 use mathlib.Core.Option.{some, none}
 use mathlib.Core.List.{List, _∷_}
 use Prim.Native.Nat.{ℕ, zero, suc, _+_, _*_, _-_, _≤_, _<_, max}
-use native.Mathlib.Decide.{decLt}
 use native.Mathlib.Nat.{zero-add}
 use native.Mathlib.Omega.{arith}
 use lib.Dec.{eqb, leb, ltb}
@@ -27,21 +26,11 @@ use Rattle.document.specs.Rows.{length-slots}
 use Rattle.document.specs.Tables.{slotsFrom, everySlot}
 use Rattle.document.specs.Sound.{isLive, isDirectory, isRootId, distinct}
 use Rattle.document.specs.Messages.{headSpot, entrySpot, messageOf, messageInRange, chained, sameHeadId, sameChildName, isEmpty, hangsTogether, readPush}
-use Rattle.table.specs.Slots.{every-slots}
+use Rattle.table.specs.Slots.{every-slots, slots-get}
 use Rattle.table.specs.Rules.{newSlot, distinct-slots}
 use Rattle.pushes.specs.Judging.{isPush, inOrder, entryIn, headerFine, heldBy, linked, topFine, firstFine, idNew, headFine, endsAtRoot, childNew, entryFine}
 
 -- ---- slots, one by one
-
-pub slots-get : (f : ℕ → Bool) (s n : ℕ) → everySlot f s n ≡ true → (i : ℕ) → s ≤ i → i < s + n → f i ≡ true
-unfolding everySlot
-slots-get f s zero e i a b = absurd (omega arith)
-slots-get f s (suc n) e i a b =
-    let p = and-true (f s) _ e in go (decLt s i) (p .0) (slots-get f (suc s) n (p .1) i)
-  where
-    go : Dec (s < i) → f s ≡ true → (suc s ≤ i → i < suc s + n → f i ≡ true) → f i ≡ true
-    go (yes l) e r = r (omega arith) (omega arith)
-    go (no g) e r = ap f {x = i} {y = s} (omega arith) ∙ e
 
 pub slots-all : (f : ℕ → Bool) (s n : ℕ) → ((i : ℕ) → s ≤ i → i < s + n → f i ≡ true) → everySlot f s n ≡ true
 unfolding everySlot

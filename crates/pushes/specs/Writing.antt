@@ -2,7 +2,7 @@
 -- contracts of `pushes::write` cite. Assumes nothing.
 use mathlib.Core.Path.{_≡_, refl, ap, sym, _∙_}
 use mathlib.Core.Bool.{Bool, true, false, cond}
-use mathlib.Core.Option.{some, none}
+use mathlib.Core.Option.{some}
 use mathlib.Core.List.{List, [], _∷_, _++_}
 use Prim.Native.Nat.{ℕ, suc, _+_, _*_, _-_, _≤_, _<_}
 use native.Mathlib.Omega.{arith}
@@ -10,19 +10,17 @@ use lib.ListN.{length}
 use Rattle.codec.specs.Bytes.{splice}
 use Rattle.records.specs.declared.head.Head.{Head}
 use Rattle.records.specs.declared.entry.Entry.{Entry}
-use Rattle.records.specs.Heads.{headAt, headBytes, length-headBytes}
+use Rattle.records.specs.Heads.{headBytes, length-headBytes}
 use Rattle.records.specs.Entries.{entryAt}
 use Rattle.messages.specs.declared.push_header.PushHeader.{PushHeader}
 use Rattle.slots.specs.declared.replica.Replica.{Replica}
 use Rattle.slots.specs.declared.listed.Listed.{Listed}
 use Rattle.slots.specs.Listings.{listed-fields}
-use Rattle.document.specs.Tables.{find, headOf, entriesOf, rows, slotsFrom, replicaSlot, entrySlot, entryIn, replicasUsed, entriesUsed, tableOf}
+use Rattle.document.specs.Tables.{find, entriesOf, rows, slotsFrom, entrySlot, entryIn, entriesUsed, tableOf}
 use Rattle.document.specs.Sound.{soundBytes}
 use Rattle.document.specs.Messages.{Push, headerOfPush, messageBytes, pushFrom}
 use Rattle.document.specs.Rows.{rows-one, rows-written}
-use Rattle.table.specs.declared.find.Found.the-variants.{At, Nothing}
-use Rattle.table.specs.Slots.{isListedIn, firstReplica}
-use Rattle.table.specs.Rules.{heldIn, held-at, not-held}
+use Rattle.table.specs.Slots.{isListedIn}
 
 -- the replica is held by the sound table that the bytes are
 pub record Held (l : List ℕ) (r : Replica) : Type 0 where
@@ -85,19 +83,6 @@ unfolding listedAt
 is-listed l d s e =
     ap (λ (b : Bool). cond b (entryIn l s .entry ∷ []) []) e
     ∙ ap (λ (x : Listed). x .entry ∷ []) (listed-fields l (entrySlot s))
-
--- ---- what a slot that was found says of the table
-
--- the head of a directory that is held, or that is not, over the slots that are used
-pub head-found : (l : List ℕ) (m d i : ℕ) → m ≡ replicasUsed l → firstReplica l m d ≡ At i →
-    (i < m) × (headOf (tableOf l) d ≡ some (headAt l (replicaSlot i)))
-unfolding tableOf
-head-found l m d i e f = let h = held-at l m d i f in (h .0, ap (λ (n : ℕ). heldIn l n d) (sym e) ∙ h .1)
-
-pub head-missing : (l : List ℕ) (m d : ℕ) → m ≡ replicasUsed l → firstReplica l m d ≡ Nothing →
-    headOf (tableOf l) d ≡ none
-unfolding tableOf
-head-missing l m d e f = ap (λ (n : ℕ). heldIn l n d) (sym e) ∙ not-held l m d f
 
 -- ---- a turn of each loop that writes
 

@@ -13,7 +13,7 @@ ghost use Rattle.document.specs.Messages.{messageOf};
 ghost use Rattle.document.specs.Receive.{ackFor};
 ghost use Rattle.document.specs.Calls.{receive, takeIn};
 ghost use Rattle.merge.specs.Merging.{Merges};
-ghost use Rattle.answers.specs.Contracts.{Answered, Leaves, LeavesAndWrites, Writes};
+ghost use Rattle.answers.specs.Contracts.{Answered, Leaves, LeavesAndWrites};
 ghost use Rattle.service.specs.Receiving.{Received, Receives, mergedIn};
 
 // Merges the message into a copy, which comes back if there is room and nothing is past its end.

@@ -10,7 +10,7 @@ ghost use lib.ListN.{length};
 ghost use Rattle.codec.specs.Bytes.{zeros};
 ghost use Rattle.document.specs.Tables.{fresh, tableBytes};
 ghost use Rattle.document.specs.Calls.{start};
-ghost use Rattle.answers.specs.Contracts.{Answered, Leaves, Writes};
+ghost use Rattle.answers.specs.Contracts.{Answered, Leaves};
 
 // Writes zeros over all of t.
 fn erase(t: &mut [u8])

@@ -2,7 +2,6 @@
 -- new replica has version 0 until the end); what stays is that its bytes can be read back. Assumes nothing.
 use mathlib.Core.Path.{_≡_, refl, ap, sym, subst, _∙_}
 use mathlib.Core.Bool.{Bool, true, false}
-use mathlib.Core.Option.{some, none}
 use mathlib.Core.List.{List, [], _∷_, _++_, List·Memᴰ·head, List·Memᴰ·tail}
 use Prim.Native.Nat.{ℕ, zero, suc, _+_, _*_, _^_, _≤_, _<_}
 use native.Mathlib.Omega.{arith}
@@ -12,21 +11,18 @@ use borrow.Author.Tests.{eqb-true, eqb-false}
 use Rattle.codec.specs.Bytes.{chunk, le, Bytes}
 use Rattle.codec.specs.Laws.{u64-halves, length-chunk, u32-below}
 use Rattle.codec.specs.Lists.{and-true}
-use Rattle.records.specs.Heads.{HeadFit, headAt, head-fields}
+use Rattle.records.specs.Heads.{HeadFit, head-fields}
 use Rattle.records.specs.Entries.{EntryFit, entry-fields}
-use Rattle.slots.specs.declared.replica.Replica.{Replica}
 use Rattle.slots.specs.TableHeaders.{TableHeaderFit, tableHeaderOf, table-round, table-fields}
 use Rattle.slots.specs.Replicas.{ReplicaFit, replicaBytes, replicaOf, replica-round, replica-fields}
 use Rattle.slots.specs.Listings.{ListedFit, listedBytes, listedOf, listed-round, listed-fields}
-use Rattle.document.specs.Tables.{Table, hasId, find, headOf?, headOf, headerOf, rows, slotsFrom, tableBytes, tableOf, tableInRange, replicaSlot, entrySlot, replicaIn, entryIn, replicasUsed, entriesUsed}
+use Rattle.document.specs.Tables.{Table, headerOf, rows, slotsFrom, tableBytes, tableOf, tableInRange, replicaSlot, entrySlot, replicaIn, entryIn, replicasUsed, entriesUsed}
 use Rattle.document.specs.Rows.{Layout, row-slot, other-rows, length-slots}
 use Rattle.document.specs.Layouts.{replicaLayout, listedLayout}
 use Rattle.document.specs.Reading.{parts-ext, header-at, replicas-at, entries-at, replicas-used, entries-used, length-tableBytes, bytes-of-table, few-replicas, few-entries}
 use Rattle.document.specs.Sound.{soundBytes}
 use Rattle.views.specs.Lists.{In}
 use Rattle.table.specs.Ranges.{range-length}
-use Rattle.table.specs.declared.find.Found.the-variants.{At, Nothing}
-use Rattle.table.specs.Slots.{firstReplica, found-slot, no-slot}
 
 -- every element has the property
 pub data Each {A : Type 0} (P : A → Type 0) : List A → Type 0 where
@@ -209,20 +205,3 @@ module _ {l : List ℕ} (k : Stands l) where
       slot-row (listedLayout 0 (omega arith)) (entryIn l) l _ 3104 0 (entriesUsed l) i
       (ap (drop 3104) (k .bytes) ∙ entries-at (tableOf l) (omega (arith, replicas-held l, few-replicas l))) (omega arith)
       (omega arith)
-
--- ---- what is held, by the slot in which it was found
-
-pub found-head : (l : List ℕ) (m id i : ℕ) → m ≡ replicasUsed l → firstReplica l m id ≡ At i →
-    (i < m) × (headOf (tableOf l) id ≡ some (headAt l (replicaSlot i)))
-unfolding tableOf
-found-head l m id i u e =
-    let p = found-slot (hasId id) (replicaIn l) 0 m i e in (
-      omega (arith, p .1),
-      ap (λ (n : ℕ). headOf? (find id (slotsFrom (replicaIn l) 0 n))) (sym u) ∙ ap headOf? (p .2)
-          ∙ ap (λ (r : Replica). some (r .head)) (replica-fields l (replicaSlot i)),
-    )
-
-pub not-found : (l : List ℕ) (m id : ℕ) → m ≡ replicasUsed l → firstReplica l m id ≡ Nothing → headOf (tableOf l) id ≡ none
-unfolding tableOf
-not-found l m id u e =
-    ap (λ (n : ℕ). headOf? (find id (slotsFrom (replicaIn l) 0 n))) (sym u) ∙ ap headOf? (no-slot (hasId id) (replicaIn l) 0 m e)

@@ -14,7 +14,7 @@ use Rattle.slots.specs.declared.listed.Listed.{Listed}
 use Rattle.document.specs.Tables.{hasId, isKey, everySlot, replicaIn, entryIn}
 use Rattle.document.specs.Sound.{sameId, sameKey}
 use Rattle.table.specs.declared.find.Found.the-variants.{At}
-use Rattle.table.specs.Slots.{firstSlot, firstReplica, firstEntry}
+use Rattle.table.specs.Slots.{firstSlot, firstReplica, firstEntry, slots-get}
 use Rattle.table.specs.Rules.{newSlot, idsNew, keysNew}
 
 -- the slot found, if it is one of m, has the id
@@ -22,17 +22,6 @@ abbrev pub HasId : List ℕ → ℕ → ℕ → ℕ → Type 0
 HasId l m id r = r < m → hasId id (replicaIn l r) ≡ true
 
 -- ---- a slot among unique ones
-
--- where every slot passes, each does
-slots-at : (f : ℕ → Bool) (s n i : ℕ) → everySlot f s n ≡ true → s ≤ i → i < s + n → f i ≡ true
-unfolding everySlot
-slots-at f s zero i e p q = absurd (omega arith)
-slots-at f s (suc n) i e p q =
-    let here = and-true (f s) (everySlot f (suc s) n) e in go (eqb s i) refl (here .0) (slots-at f (suc s) n i (here .1))
-  where
-    go : (b : Bool) → eqb s i ≡ b → f s ≡ true → (suc s ≤ i → i < suc s + n → f i ≡ true) → f i ≡ true
-    go true z e ih = ap f (sym (eqb-true s i z)) ∙ e
-    go false z e ih = let d = eqb-false s i z in ih (omega arith) (omega arith)
 
 -- the first that passes, if none before it does
 first-at : (f : ℕ → Bool) (s n i : ℕ) → s ≤ i → i < s + n → f i ≡ true → ((j : ℕ) → j < i → f j ≡ false) → firstSlot f s n ≡ At i
@@ -56,8 +45,8 @@ only-first same g f n i alike new h e = first-at (λ (j : ℕ). f (g j)) 0 n i (
     before : (j : ℕ) → j < i → (b : Bool) → f (g j) ≡ b → f (g j) ≡ false
     before j q false z = z
     before j q true z =
-        let one = slots-at (newSlot same g n) 0 n j new (omega arith) (omega arith) in
-        let two = slots-at (λ (x : ℕ). not (same (g j) (g x))) (j + 1) (n - (j + 1)) i one (omega arith) (omega arith) in
+        let one = slots-get (newSlot same g n) 0 n new j (omega arith) (omega arith) in
+        let two = slots-get (λ (x : ℕ). not (same (g j) (g x))) (j + 1) (n - (j + 1)) one i (omega arith) (omega arith) in
         absurd (true≢false (sym (alike (g j) (g i) z e) ∙ not-true _ two))
 
 pub id-only : (l : List ℕ) (m id i : ℕ) → idsNew l m ≡ true → i < m → hasId id (replicaIn l i) ≡ true → firstReplica l m id ≡ At i

@@ -23,7 +23,7 @@ use Rattle.slots.specs.declared.listed.Listed.{Listed}
 use Rattle.slots.specs.TableHeaders.{tableHeaderOf, tableHeaderAt}
 use Rattle.slots.specs.Replicas.{replica-fields}
 use Rattle.slots.specs.Listings.{listed-fields}
-use Rattle.document.specs.Tables.{Table, find, headOf?, findEntry, entryOf?, isKey, slotsFrom, everySlot, replicaSlot, entrySlot, replicaIn, entryIn, replicasUsed, entriesUsed, tableOf}
+use Rattle.document.specs.Tables.{Table, find, headOf?, findEntry, entryOf?, isKey, slotsFrom, everySlot, replicaSlot, entrySlot, replicaIn, entryIn, replicasUsed, entriesUsed, tableOf, headOf}
 use Rattle.document.specs.Sound.{distinct, sameId, sameKey, rootIn, isRootId, isLive, heldAnd, isPlaceOf, shows, makerHolds, isPartOf, isParent, replicaKeeps, entryKeeps, rules}
 use Rattle.table.specs.declared.find.Found.the-variants.{At, Nothing}
 use Rattle.table.specs.Slots.{firstReplica, firstEntry, found-slot, no-slot, every-slots, entriesIn, entries-count}
@@ -167,3 +167,14 @@ table-of l = refl
 pub key-test : (l : List ℕ) (s i : ℕ) (x : Listed) (e : Entry) (name : Name) → x ≡ entryIn l s → e ≡ x .entry →
     name ≡ x .entry .name → isKey (x .directory) (e .child) name (entryIn l i) ≡ sameKey (entryIn l s) (entryIn l i)
 key-test l s i x e name p q r = rw (q, r, p)
+
+-- what the table that bytes are holds by an id, by the slot in which it was found over the slots in use
+pub found-head : (l : List ℕ) (m id i : ℕ) → m ≡ replicasUsed l → firstReplica l m id ≡ At i →
+    (i < m) × (headOf (tableOf l) id ≡ some (headAt l (replicaSlot i)))
+unfolding tableOf
+found-head l m id i u e = let h = held-at l m id i e in (h .0, ap (λ (n : ℕ). heldIn l n id) (sym u) ∙ h .1)
+
+pub not-found : (l : List ℕ) (m id : ℕ) → m ≡ replicasUsed l → firstReplica l m id ≡ Nothing →
+    headOf (tableOf l) id ≡ none
+unfolding tableOf
+not-found l m id u e = ap (λ (n : ℕ). heldIn l n id) (sym u) ∙ not-held l m id e

@@ -1,6 +1,6 @@
 -- Slots as loops pass them: the first that passes a test, how many pass, and whether all do, with the step and the end of
 -- each, and what they say of the lists of `document`. What the contracts of `table::find` cite. Assumes nothing.
-use mathlib.Core.Path.{_≡_, refl, ap, _∙_}
+use mathlib.Core.Path.{_≡_, refl, ap, sym, _∙_}
 use mathlib.Core.Bool.{Bool, true, false, _&&_, cond}
 use mathlib.Core.Option.{some, none}
 use mathlib.Core.List.{List, _∷_}
@@ -9,8 +9,9 @@ use native.Mathlib.Omega.{arith}
 use native.Mathlib.Nat.{mul-add}
 use lib.Dec.{eqb}
 use lib.ListN.{length}
+use borrow.Author.Tests.{eqb-true, eqb-false}
 use Rattle.codec.specs.Bytes.{markedAt, u32At}
-use Rattle.codec.specs.Lists.{every}
+use Rattle.codec.specs.Lists.{every, and-true}
 use Rattle.names.specs.declared.Name.{Name}
 use Rattle.names.specs.Names.{nameAt}
 use Rattle.records.specs.declared.head.Head.{Head}
@@ -95,6 +96,17 @@ pub slots-none : (f : ℕ → Bool) (n i : ℕ) → n ≤ i → everySlot f i (n
 unfolding everySlot
 slots-none f n i h = ap (everySlot f i) {x = n - i} {y = 0} (omega arith)
 
+-- where every slot passes, each does
+pub slots-get : (f : ℕ → Bool) (s n : ℕ) → everySlot f s n ≡ true → (i : ℕ) → s ≤ i → i < s + n → f i ≡ true
+unfolding everySlot
+slots-get f s zero e i p q = absurd (omega arith)
+slots-get f s (suc n) e i p q =
+    let here = and-true (f s) (everySlot f (suc s) n) e in go (eqb s i) refl (here .0) (slots-get f (suc s) n (here .1) i)
+  where
+    go : (b : Bool) → eqb s i ≡ b → f s ≡ true → (suc s ≤ i → i < suc s + n → f i ≡ true) → f i ≡ true
+    go true z e ih = ap f (sym (eqb-true s i z)) ∙ e
+    go false z e ih = let d = eqb-false s i z in ih (omega arith) (omega arith)
+
 -- ---- fields, read in place
 
 pub id-at : (l : List ℕ) (s : ℕ) → replicaIn l s .head .id ≡ u32At l (replicaSlot s + 4)
@@ -118,11 +130,6 @@ pub every-slots : {A : Type 0} (f : A → Bool) (g : ℕ → A) (s n : ℕ) → 
 unfolding every slotsFrom everySlot
 every-slots f g s zero = refl
 every-slots f g s (suc n) = ap (λ (b : Bool). f (g s) && b) (every-slots f g (suc s) n)
-
-pub length-slots : {A : Type 0} (g : ℕ → A) (s n : ℕ) → length (slotsFrom g s n) ≡ n
-unfolding slotsFrom
-length-slots g s zero = refl
-length-slots g s (suc n) = ap suc (length-slots g (suc s) n)
 
 pub entries-count : (l : List ℕ) (directory s k : ℕ) →
     length (entriesOf directory (slotsFrom (entryIn l) s k)) ≡ countSlots (isListedIn l directory) s k

@@ -5,7 +5,7 @@ use mathlib.Core.Option.{some}
 use native.Mathlib.Omega.{arith}
 use Rattle.document.specs.Tables.{tableOf}
 use Rattle.document.specs.Reading.{few-replicas}
-use Rattle.steps.specs.Standing.{found-head, not-found}
+use Rattle.table.specs.Rules.{found-head, not-found}
 use Rattle.judge.specs.Deciding.{first-absent, first-left, first-taken}
 use Rattle.judge.proofs.joins.first_agrees.Statement.{statement}
 use Rattle.judge.proofs.joins.first_agrees.Tie as tie

@@ -4,7 +4,7 @@ use mathlib.Core.Path.{sym, _∙_}
 use native.Mathlib.Omega.{arith}
 use Rattle.document.specs.Tables.{tableOf}
 use Rattle.document.specs.Reading.{few-replicas}
-use Rattle.steps.specs.Standing.{found-head, not-found}
+use Rattle.table.specs.Rules.{found-head, not-found}
 use Rattle.judge.specs.Deciding.{made-held, made-absent}
 use Rattle.judge.proofs.joins.made_agrees.Statement.{statement}
 use Rattle.judge.proofs.joins.made_agrees.Tie as tie

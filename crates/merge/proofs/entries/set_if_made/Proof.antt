@@ -2,7 +2,7 @@
 use borrow.Author.Needs.{needs}
 use mathlib.Core.Path.{sym, _∙_}
 use Rattle.document.specs.Tables.{tableOf}
-use Rattle.steps.specs.Standing.{found-head, not-found}
+use Rattle.table.specs.Rules.{found-head, not-found}
 use Rattle.merge.specs.Entries.{setting-held, setting-made}
 use Rattle.merge.proofs.entries.set_if_made.Statement.{statement}
 use Rattle.merge.proofs.entries.set_if_made.Tie as tie

@@ -4,7 +4,7 @@ use native.Mathlib.Omega.{arith}
 use mathlib.Core.Path.{ap, sym, _∙_}
 use mathlib.Core.Option.{some}
 use Rattle.document.specs.Tables.{tableOf}
-use Rattle.steps.specs.Standing.{found-head, not-found}
+use Rattle.table.specs.Rules.{found-head, not-found}
 use Rattle.merge.specs.Entries.{first-made, first-places, first-taken, first-kept}
 use Rattle.merge.proofs.entries.set_if_taken.Statement.{statement}
 use Rattle.merge.proofs.entries.set_if_taken.Tie as tie

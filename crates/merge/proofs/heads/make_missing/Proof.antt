@@ -2,7 +2,7 @@
 use borrow.Author.Needs.{needs}
 use native.Mathlib.Omega.{arith}
 use mathlib.Core.Path.{sym, _∙_}
-use Rattle.steps.specs.Standing.{found-head, not-found}
+use Rattle.table.specs.Rules.{found-head, not-found}
 use Rattle.merge.specs.Heads.{missing-held, missing-made}
 use Rattle.merge.proofs.heads.make_missing.Statement.{statement}
 use Rattle.merge.proofs.heads.make_missing.Tie as tie

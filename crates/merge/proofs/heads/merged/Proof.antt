@@ -8,7 +8,7 @@ use Rattle.records.specs.declared.head.Head.{Head}
 use Rattle.document.specs.Tables.{tableOf}
 use Rattle.document.specs.Steps.{withHolders}
 use Rattle.document.specs.Receive.{merged}
-use Rattle.steps.specs.Standing.{found-head, not-found}
+use Rattle.table.specs.Rules.{found-head, not-found}
 use Rattle.merge.specs.Heads.{merged-taken, merged-kept}
 use Rattle.merge.proofs.heads.merged.Statement.{statement}
 use Rattle.merge.proofs.heads.merged.Tie as tie

@@ -4,7 +4,7 @@ use native.Mathlib.Omega.{arith}
 use mathlib.Core.Path.{ap, sym, _∙_}
 use Rattle.records.specs.declared.head.Head.{Head}
 use Rattle.document.specs.Steps.{directoryOf}
-use Rattle.steps.specs.Standing.{found-head, not-found}
+use Rattle.table.specs.Rules.{found-head, not-found}
 use Rattle.merge.proofs.live.directory_of.Statement.{statement}
 use Rattle.merge.proofs.live.directory_of.Tie as tie
 

@@ -5,7 +5,7 @@ use mathlib.Core.Path.{ap, sym, _∙_}
 use mathlib.Core.Option.{some}
 use Rattle.records.specs.declared.head.Head.{Head}
 use Rattle.document.specs.Steps.{isDead}
-use Rattle.steps.specs.Standing.{found-head, not-found}
+use Rattle.table.specs.Rules.{found-head, not-found}
 use Rattle.merge.proofs.live.is_dead.Statement.{statement}
 use Rattle.merge.proofs.live.is_dead.Tie as tie
 

@@ -4,7 +4,7 @@ use native.Mathlib.Omega.{arith}
 use mathlib.Core.Path.{ap, sym, _∙_}
 use mathlib.Core.Option.{some}
 use borrow.Author.Tests.{eq-eqb, ne-eqb, not-true, not-false}
-use Rattle.steps.specs.Standing.{found-head, not-found}
+use Rattle.table.specs.Rules.{found-head, not-found}
 use Rattle.merge.specs.Live.{mend-none, mend-dead, mend-live, mend-low, mend-lights, mend-made}
 use Rattle.merge.proofs.live.mend.Statement.{statement}
 use Rattle.merge.proofs.live.mend.Tie as tie

@@ -3,7 +3,7 @@ use borrow.Author.Needs.{needs}
 use native.Mathlib.Omega.{arith}
 use mathlib.Core.Path.{ap, sym, _∙_}
 use mathlib.Core.Option.{some}
-use Rattle.steps.specs.Standing.{found-head, not-found}
+use Rattle.table.specs.Rules.{found-head, not-found}
 use Rattle.merge.specs.Live.{revive-none, revive-ready, revive-made}
 use Rattle.merge.proofs.live.revive.Statement.{statement}
 use Rattle.merge.proofs.live.revive.Tie as tie

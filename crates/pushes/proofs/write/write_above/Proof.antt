@@ -14,7 +14,8 @@ use Rattle.document.specs.Tables.{replicaSlot, rows, tableOf}
 use Rattle.document.specs.Messages.{chainUp}
 use Rattle.document.specs.Rows.{rows-end}
 use Rattle.views.specs.Chains.{chain-root, chain-gone, chain-up, chain-end}
-use Rattle.pushes.specs.Writing.{head-found, head-missing, head-written}
+use Rattle.table.specs.Rules.{found-head, not-found}
+use Rattle.pushes.specs.Writing.{head-written}
 use Rattle.pushes.proofs.write.write_above.Statement.{statement}
 use Rattle.pushes.proofs.write.write_above.Tie as tie
 
@@ -48,7 +49,7 @@ found c =
     let used = at-loop c .before .replicas-used in
     let e = c .before .before .before .before in
     let f =
-    head-found (a .t .now) (used .result) (l .d) _ (used .ensures .0)
+    found-head (a .t .now) (used .result) (l .d) _ (used .ensures .0)
     (sym (c .before .before .before .replica .ensures) ∙ c .before .found .given .1) in (
       omega (arith, f .0, used .ensures .1),
       chain-up (a .most) (l .i) (l .d) (tableOf (a .t .now)) _ (e .before .loop-test .taken) (e .if1 .left) (f .1),
@@ -102,7 +103,7 @@ returns-2 c =
     let used = l .before .replicas-used in
     ended l
     (chain-gone _ (l .loop .d) _
-    (head-missing (l .before .before .before .before .args .t .now) (used .result) (l .loop .d) (used .ensures .0)
+    (not-found (l .before .before .before .before .args .t .now) (used .result) (l .loop .d) (used .ensures .0)
     (sym (c .before .before .replica .ensures) ∙ c .enum-told .given .1)))
 
 mul-read : tie.Need-mul-read Inv-loop μ-loop

@@ -4,7 +4,7 @@ use native.Mathlib.Omega.{arith}
 use mathlib.Core.Path.{refl, ap, sym, _∙_}
 use mathlib.Core.Option.{some}
 use Rattle.codec.specs.Lists.{passed, failed}
-use Rattle.steps.specs.Standing.{found-head, not-found}
+use Rattle.table.specs.Rules.{found-head, not-found}
 use Rattle.steps.specs.States.{put-full, then-places, then-set}
 use Rattle.steps.proofs.state.state.Statement.{statement}
 use Rattle.steps.proofs.state.state.Tie as tie
