@@ -1,6 +1,6 @@
--- Determinacy, over all public calls at once: no two differing outcomes satisfy the contract of a call. Each field below has the
--- contract as the function of that name has it, for whatever bytes and numbers it is given, and says that an answer and what stands
--- in the buffers lent are the only ones that satisfy it. It holds of the calls, which answer number and value, and of their
+-- Determinacy, over all public calls at once: no two differing outcomes satisfy the contract of a call. Each field below cites the
+-- contract that the call's function and its twin cite (`Promises`), for whatever bytes and numbers it is given, and says that an
+-- answer and what stands in the buffers lent are the only ones that satisfy it. It holds of the calls, which answer number and value, and of their
 -- exported twins, which answer both in one number; there `Contracts.packed-apart` gives that
 -- the one number has the number and the value of one outcome only. Assumes nothing.
 use mathlib.Core.Path.{_≡_, sym, _∙_}
@@ -9,6 +9,7 @@ use Prim.Native.Nat.{ℕ}
 use lib.ListN.{length}
 use Rattle.document.specs.Outcomes.{Outcome}
 use Rattle.document.specs.Calls.{start, create, unlink, rename, remove, spread, list, push, receive, acknowledged, pending}
+use Rattle.service.specs.Promises.{StartPromise, CreatePromise, UnlinkPromise, RenamePromise, RemovePromise, SpreadPromise, ListPromise, PushPromise, ReceivePromise, AcknowledgedPromise, PendingPromise}
 use Rattle.answers.specs.Contracts.{Answered, Packed, Leaves, Writes, LeavesAndWrites, OneAnswer, answered-once, packed-once}
 
 -- only one answer; only one with one content of a buffer; only one with one content of two
@@ -22,24 +23,20 @@ abbrev pub OnlyWithBoth : {A : Type 0} → (A → List ℕ → List ℕ → Type
 OnlyWithBoth {A = A} R =
     (r r' : A) (m m' out out' : List ℕ) → R r m out → R r' m' out' → (r ≡ r') × (m ≡ m') × (out ≡ out')
 
--- P is how the calls answer; l are the table's bytes before the call, b those of the output buffer
+-- P is how the calls answer
 pub record Determined {A : Type 0} (P : Outcome → A → Type 0) : Type 0 where
-  pub starts : (l : List ℕ) (node n : ℕ) → OnlyWith (λ (r : A) (m : List ℕ). Leaves P (start l node n) r l m)
+  pub starts : (l : List ℕ) (node n : ℕ) → OnlyWith (StartPromise P l node n)
   pub creates : (l : List ℕ) (time directory kind : ℕ) (name : List ℕ) (set : ℕ) →
-      OnlyWith (λ (r : A) (m : List ℕ). Leaves P (create l time directory kind name set) r l m)
-  pub unlinks : (l : List ℕ) (time id : ℕ) → OnlyWith (λ (r : A) (m : List ℕ). Leaves P (unlink l time id) r l m)
-  pub renames : (l : List ℕ) (time id directory : ℕ) (name : List ℕ) →
-      OnlyWith (λ (r : A) (m : List ℕ). Leaves P (rename l time id directory name) r l m)
-  pub removes : (l : List ℕ) (time id : ℕ) → OnlyWith (λ (r : A) (m : List ℕ). Leaves P (remove l time id) r l m)
-  pub spreads : (l : List ℕ) (id set : ℕ) → OnlyWith (λ (r : A) (m : List ℕ). Leaves P (spread l id set) r l m)
-  pub lists : (l : List ℕ) (id : ℕ) (b : List ℕ) →
-      OnlyWith (λ (r : A) (out : List ℕ). Writes P (list l id (length b)) r b out)
-  pub pushes : (l : List ℕ) (id node : ℕ) (b : List ℕ) →
-      OnlyWith (λ (r : A) (out : List ℕ). Writes P (push l id node (length b)) r b out)
-  pub receives : (l : List ℕ) (time : ℕ) (message b : List ℕ) →
-      OnlyWithBoth (λ (r : A) (m out : List ℕ). LeavesAndWrites P (receive l time message (length b)) r l m b out)
-  pub acknowledges : (l message : List ℕ) → OnlyWith (λ (r : A) (m : List ℕ). Leaves P (acknowledged l message) r l m)
-  pub counts : (l : List ℕ) → Only (λ (r : A). P (pending l) r)
+      OnlyWith (CreatePromise P l time directory kind name set)
+  pub unlinks : (l : List ℕ) (time id : ℕ) → OnlyWith (UnlinkPromise P l time id)
+  pub renames : (l : List ℕ) (time id directory : ℕ) (name : List ℕ) → OnlyWith (RenamePromise P l time id directory name)
+  pub removes : (l : List ℕ) (time id : ℕ) → OnlyWith (RemovePromise P l time id)
+  pub spreads : (l : List ℕ) (id set : ℕ) → OnlyWith (SpreadPromise P l id set)
+  pub lists : (l : List ℕ) (id : ℕ) (b : List ℕ) → OnlyWith (ListPromise P l id b)
+  pub pushes : (l : List ℕ) (id node : ℕ) (b : List ℕ) → OnlyWith (PushPromise P l id node b)
+  pub receives : (l : List ℕ) (time : ℕ) (message b : List ℕ) → OnlyWithBoth (ReceivePromise P l time message b)
+  pub acknowledges : (l message : List ℕ) → OnlyWith (AcknowledgedPromise P l message)
+  pub counts : (l : List ℕ) → Only (PendingPromise P l)
 
 -- each form, once for all calls of that form
 changes-once : {A : Type 0} (P : Outcome → A → Type 0) → OneAnswer P → (o : Outcome) (l : List ℕ) →

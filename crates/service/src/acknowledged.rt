@@ -8,9 +8,10 @@ ghost use mathlib.Core.Path.{_≡_};
 ghost use mathlib.Core.Bool.{true};
 ghost use Rattle.document.specs.Tables.{tableOf};
 ghost use Rattle.document.specs.Sound.{soundBytes};
-ghost use Rattle.document.specs.Calls.{acknowledged, clearIn};
+ghost use Rattle.document.specs.Calls.{clearIn};
 ghost use Rattle.answers.specs.Contracts.{Answered, Leaves};
 ghost use Rattle.service.specs.Acknowledging.{isAck, Clears};
+ghost use Rattle.service.specs.Promises.{AcknowledgedPromise};
 
 // Whether the message is an acknowledgement in a cluster of n nodes.
 fn is_acknowledgement(message: &[u8], n: u8) -> bool
@@ -76,8 +77,7 @@ fn clear(table: &mut [u8], a: Acknowledgement) -> Answer
 
 // Takes an acknowledgement that came in.
 pub fn acknowledged(table: &mut [u8], message: &[u8]) -> Answer
-    ensures { λ r. ⌜ Leaves Answered (acknowledged (now (table .entry)) (now (message .entry))) r
-        (now (table .entry)) (now (table .exit)) ⌝ }
+    ensures { λ r. ⌜ AcknowledgedPromise Answered (now (table .entry)) (now (message .entry)) r (now (table .exit)) ⌝ }
 {
     if !table::is_sound(table) {
         return Answer {

@@ -12,9 +12,10 @@ ghost use lib.ListN.{length};
 ghost use Rattle.codec.specs.Bytes.{splice};
 ghost use Rattle.records.specs.Entries.{entryBytes};
 ghost use Rattle.document.specs.Tables.{headOf, rows, tableOf};
-ghost use Rattle.document.specs.Calls.{list, listIn};
+ghost use Rattle.document.specs.Calls.{listIn};
 ghost use Rattle.answers.specs.Contracts.{Answered, Writes};
 ghost use Rattle.service.specs.Listing.{shownAt, shownIn};
+ghost use Rattle.service.specs.Promises.{ListPromise};
 
 // How many of k entry slots are live entries of the directory.
 fn shown_in(t: &[u8], k: usize, directory: u32) -> usize
@@ -107,8 +108,7 @@ fn list_held(t: &[u8], id: u32, h: Head, out: &mut [u8]) -> Answer
 
 // Writes the live entries of the directory at the front of `out`; the value is how many they are.
 pub fn list(table: &[u8], id: u64, out: &mut [u8]) -> Answer
-    ensures { λ r. ⌜ Writes Answered (list (now (table .entry)) id (length (now (out .entry)))) r
-        (now (out .entry)) (now (out .exit)) ⌝ }
+    ensures { λ r. ⌜ ListPromise Answered (now (table .entry)) id (now (out .entry)) r (now (out .exit)) ⌝ }
 {
     if !table::is_sound(table) {
         return Answer {

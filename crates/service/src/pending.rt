@@ -3,11 +3,12 @@ use answers::Answer;
 use numbers::nodes;
 use table::find;
 ghost use mathlib.Core.Path.{_≡_};
-ghost use Prim.Native.Nat.{_+_, _*_, _≤_, _<_};
+ghost use Prim.Native.Nat.{_≤_};
 ghost use lib.ListN.{length};
 ghost use Rattle.document.specs.Tables.{slotsFrom, replicaIn};
-ghost use Rattle.document.specs.Calls.{pending, pendingSum};
+ghost use Rattle.document.specs.Calls.{pendingSum};
 ghost use Rattle.answers.specs.Contracts.{Answered};
+ghost use Rattle.service.specs.Promises.{PendingPromise};
 
 // The sum of the pending bits of m replicas.
 fn pending_bits(t: &[u8], m: usize) -> u32
@@ -25,7 +26,7 @@ fn pending_bits(t: &[u8], m: usize) -> u32
 
 // The sum of pending bits over all replicas.
 pub fn pending(table: &[u8]) -> Answer
-    ensures { λ r. ⌜ Answered (pending (now (table .entry))) r ⌝ }
+    ensures { λ r. ⌜ PendingPromise Answered (now (table .entry)) r ⌝ }
 {
     if !table::is_sound(table) {
         return Answer {

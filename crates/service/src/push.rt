@@ -7,9 +7,10 @@ use slots::Replica;
 use table::find::Found;
 ghost use lib.ListN.{length};
 ghost use Rattle.document.specs.Tables.{tableOf};
-ghost use Rattle.document.specs.Calls.{push, pushIn};
+ghost use Rattle.document.specs.Calls.{pushIn};
 ghost use Rattle.answers.specs.Contracts.{Answered, Writes};
 ghost use Rattle.service.specs.Pushing.{Pushes};
+ghost use Rattle.service.specs.Promises.{PushPromise};
 
 // Pushes a held replica to another node.
 fn push_held(t: &[u8], r: Replica, node: u8, out: &mut [u8]) -> Answer
@@ -40,8 +41,7 @@ fn push_held(t: &[u8], r: Replica, node: u8, out: &mut [u8]) -> Answer
 
 // Writes the push of the replica for the node at the front of `out`; the value is its length.
 pub fn push(table: &[u8], id: u64, node: u64, out: &mut [u8]) -> Answer
-    ensures { λ r. ⌜ Writes Answered (push (now (table .entry)) id node (length (now (out .entry)))) r
-        (now (out .entry)) (now (out .exit)) ⌝ }
+    ensures { λ r. ⌜ PushPromise Answered (now (table .entry)) id node (now (out .entry)) r (now (out .exit)) ⌝ }
 {
     if !table::is_sound(table) {
         return Answer {

@@ -11,10 +11,11 @@ ghost use Rattle.messages.specs.Acknowledgements.{ackBytes};
 ghost use Rattle.document.specs.Tables.{tableOf};
 ghost use Rattle.document.specs.Messages.{messageOf};
 ghost use Rattle.document.specs.Receive.{ackFor};
-ghost use Rattle.document.specs.Calls.{receive, takeIn};
+ghost use Rattle.document.specs.Calls.{takeIn};
 ghost use Rattle.merge.specs.Merging.{Merges};
-ghost use Rattle.answers.specs.Contracts.{Answered, Leaves, LeavesAndWrites};
+ghost use Rattle.answers.specs.Contracts.{Answered, Leaves};
 ghost use Rattle.service.specs.Receiving.{Received, Receives, mergedIn};
+ghost use Rattle.service.specs.Promises.{ReceivePromise};
 
 // Merges the message into a copy, which comes back if there is room and nothing is past its end.
 fn merged(table: &mut [u8], time: u64, message: &[u8]) -> Answer
@@ -76,8 +77,7 @@ fn take(table: &mut [u8], time: u64, message: &[u8], out: &mut [u8]) -> Answer
 // Takes a push that came in; the acknowledgement is written at the front of `out`, and the value is its
 // length.
 pub fn receive(table: &mut [u8], time: u64, message: &[u8], out: &mut [u8]) -> Answer
-    ensures { λ r. ⌜ LeavesAndWrites Answered (receive (now (table .entry)) time (now (message .entry)) (length (now (out .entry)))) r
-        (now (table .entry)) (now (table .exit)) (now (out .entry)) (now (out .exit)) ⌝ }
+    ensures { λ r. ⌜ ReceivePromise Answered (now (table .entry)) time (now (message .entry)) (now (out .entry)) r (now (table .exit)) (now (out .exit)) ⌝ }
 {
     if !table::is_sound(table) {
         return Answer {

@@ -9,8 +9,8 @@ ghost use Prim.Native.Nat.{_≤_};
 ghost use lib.ListN.{length};
 ghost use Rattle.codec.specs.Bytes.{zeros};
 ghost use Rattle.document.specs.Tables.{fresh, tableBytes};
-ghost use Rattle.document.specs.Calls.{start};
-ghost use Rattle.answers.specs.Contracts.{Answered, Leaves};
+ghost use Rattle.answers.specs.Contracts.{Answered};
+ghost use Rattle.service.specs.Promises.{StartPromise};
 
 // Writes zeros over all of t.
 fn erase(t: &mut [u8])
@@ -46,8 +46,7 @@ fn refresh(t: &mut [u8], node: u8, n: u8)
 
 // Makes the table a fresh one.
 pub fn start(table: &mut [u8], node: u64, n: u64) -> Answer
-    ensures { λ r. ⌜ Leaves Answered (start (now (table .entry)) node n) r
-        (now (table .entry)) (now (table .exit)) ⌝ }
+    ensures { λ r. ⌜ StartPromise Answered (now (table .entry)) node n r (now (table .exit)) ⌝ }
 {
     if table.len() != 13344 {
         return Answer {

@@ -1,8 +1,8 @@
 // The calls that change the tree: create, unlink, rename, remove, spread. The table is judged here; the
 // rest is done in `changes`.
 use answers::Answer;
-ghost use Rattle.document.specs.Calls.{create, unlink, rename, remove, spread};
-ghost use Rattle.answers.specs.Contracts.{Answered, Leaves};
+ghost use Rattle.answers.specs.Contracts.{Answered};
+ghost use Rattle.service.specs.Promises.{CreatePromise, RemovePromise, RenamePromise, SpreadPromise, UnlinkPromise};
 
 // Creates a file (1) or a directory (2) with that name in the directory, for the nodes of the set; the
 // value is its id.
@@ -14,8 +14,7 @@ pub fn create(
     name: &[u8],
     set: u64,
 ) -> Answer
-    ensures { λ r. ⌜ Leaves Answered (create (now (table .entry)) time directory kind (now (name .entry)) set) r
-        (now (table .entry)) (now (table .exit)) ⌝ }
+    ensures { λ r. ⌜ CreatePromise Answered (now (table .entry)) time directory kind (now (name .entry)) set r (now (table .exit)) ⌝ }
 {
     if !table::is_sound(table) {
         return Answer {
@@ -28,8 +27,7 @@ pub fn create(
 
 // Unlinks the file.
 pub fn unlink(table: &mut [u8], time: u64, id: u64) -> Answer
-    ensures { λ r. ⌜ Leaves Answered (unlink (now (table .entry)) time id) r
-        (now (table .entry)) (now (table .exit)) ⌝ }
+    ensures { λ r. ⌜ UnlinkPromise Answered (now (table .entry)) time id r (now (table .exit)) ⌝ }
 {
     if !table::is_sound(table) {
         return Answer {
@@ -42,8 +40,7 @@ pub fn unlink(table: &mut [u8], time: u64, id: u64) -> Answer
 
 // Renames the file to the name in the directory.
 pub fn rename(table: &mut [u8], time: u64, id: u64, directory: u64, name: &[u8]) -> Answer
-    ensures { λ r. ⌜ Leaves Answered (rename (now (table .entry)) time id directory (now (name .entry))) r
-        (now (table .entry)) (now (table .exit)) ⌝ }
+    ensures { λ r. ⌜ RenamePromise Answered (now (table .entry)) time id directory (now (name .entry)) r (now (table .exit)) ⌝ }
 {
     if !table::is_sound(table) {
         return Answer {
@@ -56,8 +53,7 @@ pub fn rename(table: &mut [u8], time: u64, id: u64, directory: u64, name: &[u8])
 
 // Removes the directory.
 pub fn remove(table: &mut [u8], time: u64, id: u64) -> Answer
-    ensures { λ r. ⌜ Leaves Answered (remove (now (table .entry)) time id) r
-        (now (table .entry)) (now (table .exit)) ⌝ }
+    ensures { λ r. ⌜ RemovePromise Answered (now (table .entry)) time id r (now (table .exit)) ⌝ }
 {
     if !table::is_sound(table) {
         return Answer {
@@ -70,8 +66,7 @@ pub fn remove(table: &mut [u8], time: u64, id: u64) -> Answer
 
 // Spreads the replica to the nodes of the set.
 pub fn spread(table: &mut [u8], id: u64, set: u64) -> Answer
-    ensures { λ r. ⌜ Leaves Answered (spread (now (table .entry)) id set) r
-        (now (table .entry)) (now (table .exit)) ⌝ }
+    ensures { λ r. ⌜ SpreadPromise Answered (now (table .entry)) id set r (now (table .exit)) ⌝ }
 {
     if !table::is_sound(table) {
         return Answer {
