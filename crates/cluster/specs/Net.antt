@@ -13,7 +13,7 @@ use Rattle.numbers.specs.Laws.{has-without}
 use Rattle.records.specs.declared.head.Head.{Head}
 use Rattle.messages.specs.declared.acknowledgement.Acknowledgement.{Acknowledgement}
 use Rattle.slots.specs.declared.replica.Replica.{Replica}
-use Rattle.document.specs.Tables.{Table, withReplicas, first, find, headOf?, headOf}
+use Rattle.document.specs.Tables.{Table, withReplicas, find, headOf?, headOf}
 use Rattle.document.specs.Sound.{sound}
 use Rattle.document.specs.Messages.{Push, chainUp, pushFrom}
 use Rattle.document.specs.Receive.{joinedIn, ackFor}

@@ -4,7 +4,6 @@ use mathlib.Core.Path.{ap, _∙_}
 use Prim.Native.Nat.{_-_}
 use Rattle.answers.specs.Answers.{instead}
 use Rattle.steps.specs.Standing.{sound-stands}
-use Rattle.numbers.specs.Nodes.{join}
 use Rattle.document.specs.Steps.{withHolders}
 use Rattle.changes.specs.Working.{copy-stands}
 use Rattle.changes.specs.Spreading.{spread-slot, spread-ends, spread-is}

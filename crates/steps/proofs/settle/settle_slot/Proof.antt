@@ -3,7 +3,6 @@ use borrow.Author.Needs.{needs}
 use native.Mathlib.Omega.{arith}
 use mathlib.Core.Path.{_≡_, ap, sym, _∙_}
 use Prim.Native.Nat.{_+_, _-_, _*_}
-use Rattle.numbers.specs.Nodes.{without}
 use Rattle.codec.specs.Bytes.{splice}
 use Rattle.slots.specs.declared.replica.Replica.{Replica}
 use Rattle.slots.specs.Replicas.{replicaBytes}
