@@ -1,9 +1,11 @@
 // What a call answers. The calls and the crates that they are made of share it.
+#![tactic(auto)]
+
 ghost use Rattle.std.specs.Prelude.{◌≡◌, ◌<◌};
 ghost use Rattle.answers.specs.Answers.{packed_answer};
 
 // What comes back: 0 is done, any other number a refusal; and the value.
-#[derive(Drop)]
+#[derive(Clone, Copy)]
 pub struct Answer {
     pub number: u32,
     pub value: u32,

@@ -3,6 +3,8 @@
 // ends it; a malformed request is answered by sixteen bytes FF and ends it too.
 //
 // Proved here is that it is safe and ends. What it prints is held to the second program's answers.
+#![tactic(auto)]
+
 mod adler;
 mod serve;
 mod wire;

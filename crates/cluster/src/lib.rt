@@ -5,6 +5,8 @@
 // first run of document 01 as an instance). The invariants and why they suffice: Ranks, Sets, Invariants, Facts, Final.
 // One accepted call keeps them, once for every call: Adds, Directory, Settle, Keeps. What each call shows of its own
 // table: Accepted, Issue, Users, Net, Receive. From bytes to tables and back: Reached, Makes, Begun; Drawn.
+#![tactic(auto)]
+
 ghost use Rattle.std.specs.Prelude.{◌≡◌};
 
 // The most nodes that a cluster has.

@@ -66,7 +66,7 @@ passed {r} e h = sym e ∙ not-false r h
 -- ---- members
 
 -- what holds of every element holds of a member
-pub every_member : {A : Type 0} (f : A → Bool) {l : List A} {x : A} → Memᴰ x l → every f l ≡ true → f x ≡ true
+pub every_member : {A : Type 0} (f : A → Bool) {x : A} {l : List A} → Memᴰ x l → every f l ≡ true → f x ≡ true
 unfolding every
 every_member f (Memᴰ.head {x = y} {xs = ys} e) h = ap f e ∙ (and_true (f y) (every f ys) h).0
 every_member f (Memᴰ.tail {x = y} {xs = ys} m) h = every_member f m (and_true (f y) (every f ys) h).1

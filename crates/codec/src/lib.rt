@@ -4,6 +4,8 @@
 // What a record means is not known here. A function that reads or writes at an offset asks that the
 // place lies within the slice, and its answer is one equation with a definition of specs/. A number
 // is never wider than its field, so nothing is cut off.
+#![tactic(auto)]
+
 ghost use Rattle.std.specs.Prelude.{◌≡◌, ◌+◌, ◌≤◌, ◌<◌, [], ◌∷◌, length, drop};
 ghost use Rattle.codec.specs.Bytes.{chunk, splice, u8, u32, u64, u8_at, u32_at, u64_at, all_are, same_bytes, marked_at, zero_at};
 
@@ -111,7 +113,7 @@ pub fn replace(t: &mut [u8], o: usize, src: &[u8])
     requires { o + length src.now ≤ length t.old }
     ensures { t.new ≡ splice t.old o src.now }
 {
-    bytes::copy(src, &mut t[o..]);
+    t[o..o + src.len()].copy_from_slice(src);
 }
 
 // Whether every byte of s is v.

@@ -1,5 +1,7 @@
 // Line 13 of the refusals, a message against the table, judged before anything is changed. That this
 // is exact is a law: in one receive no two joins meet the same directory, child and name.
+#![tactic(auto)]
+
 mod heads;
 mod joins;
 

@@ -1,6 +1,8 @@
 // Receive on a working copy of a table, steps (a) to (f); versions are raised by `steps::settle`, and the
 // call does (g). What is refused before is judged by the call, and so is line 17 of the refusals, on the
 // outcome.
+#![tactic(auto)]
+
 pub mod clocks;
 pub mod entries;
 pub mod heads;

@@ -5,7 +5,7 @@ ghost use Rattle.messages.specs.Acknowledgements.{ack_at, ack_bytes, ack_fits, a
 
 use numbers::{ids, nodes};
 
-#[derive(Drop)]
+#[derive(Clone, Copy)]
 pub struct Acknowledgement {
     pub sender: u8,
     pub addressee: u8,

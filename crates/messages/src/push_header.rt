@@ -5,7 +5,7 @@ ghost use Rattle.messages.specs.PushHeaders.{push_at, push_bytes, push_fits, pus
 
 use numbers::{ids, nodes};
 
-#[derive(Drop)]
+#[derive(Clone, Copy)]
 pub struct PushHeader {
     pub sender: u8,
     pub addressee: u8,

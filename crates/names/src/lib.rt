@@ -1,10 +1,12 @@
 // Names: one length byte, then fifteen bytes, unused ones zero. A name is a struct by value, inside
 // heads and entries; what a caller gives is a slice of any length, and becomes a name that is judged.
+#![tactic(auto)]
+
 ghost use Rattle.std.specs.Prelude.{◌≡◌, ◌+◌, ◌≤◌, length};
 ghost use Rattle.codec.specs.Bytes.{splice};
 ghost use Rattle.names.specs.Names.{name_at, name_bytes, no_name, name_from, same_name, clean, is_text, is_name};
 
-#[derive(Drop)]
+#[derive(Clone, Copy)]
 pub struct Name {
     pub len: u8,
     pub bytes: [u8; 15],

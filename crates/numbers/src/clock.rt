@@ -3,12 +3,12 @@
 ghost use Rattle.std.specs.Prelude.{◌≡◌, ◌≤◌, ◌<◌, ◌^◌};
 ghost use Rattle.numbers.specs.Clocks.{ticked, ticked_at};
 
-#[derive(Drop)]
+#[derive(Clone, Copy)]
 pub struct Clock {
     pub highest: u64,
 }
 
-#[derive(Drop)]
+#[derive(Clone, Copy)]
 pub struct Ticked {
     pub clock: Clock,
     pub stamp: u64,

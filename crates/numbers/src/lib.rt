@@ -1,6 +1,8 @@
 // Numbers of document 01: nodes and node sets, ids, stamps and versions, and the clock. Each is a
 // machine number. Most functions take any value; those on sets of N nodes ask that N is at most 8,
 // `id_of` and `tick` that the result fits.
+#![tactic(auto)]
+
 pub mod clock;
 pub mod ids;
 pub mod nodes;

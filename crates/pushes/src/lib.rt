@@ -3,6 +3,8 @@
 //
 // What a table does with a push is not known here. Writing asks for a sound table and a held replica;
 // judging takes any bytes.
+#![tactic(auto)]
+
 pub mod judge;
 pub mod read;
 pub mod reader;

@@ -6,7 +6,7 @@ ghost use Rattle.records.specs.Entries.{entry_at, entry_bytes, entry_fits, entry
 use names::Name;
 use numbers::ids;
 
-#[derive(Drop)]
+#[derive(Clone, Copy)]
 pub struct Entry {
     pub live: u8,
     pub child: u32,

@@ -6,7 +6,7 @@ ghost use Rattle.records.specs.Heads.{head_at, head_bytes, root_head, is_root, i
 use names::Name;
 use numbers::{ids, nodes};
 
-#[derive(Drop)]
+#[derive(Clone, Copy)]
 pub struct Head {
     pub kind: u8,
     pub live: u8,

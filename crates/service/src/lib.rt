@@ -1,6 +1,8 @@
 // The calls. Each takes any table, message and number, judges them itself, gives the lowest number
 // that holds, and else does what document 01 says: its contract is one equation with the call of
 // that name in `document`, for the answer and for every byte lent. None has a `requires`.
+#![tactic(auto)]
+
 pub mod acknowledged;
 pub mod exports;
 pub mod list;

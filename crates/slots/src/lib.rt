@@ -1,5 +1,7 @@
 // What a table is made of: its header, replica slots and entry slots. Structs by value, read, written
 // and judged at an offset, as the records are. Where the slots stand in a table is not known here.
+#![tactic(auto)]
+
 pub mod listed;
 pub mod replica;
 pub mod table_header;

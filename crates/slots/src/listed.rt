@@ -6,7 +6,7 @@ ghost use Rattle.slots.specs.Listings.{listed_at, listed_bytes, listed_in_range}
 use numbers::ids;
 use records::Entry;
 
-#[derive(Drop)]
+#[derive(Clone, Copy)]
 pub struct Listed {
     pub entry: Entry,
     pub directory: u32,

@@ -6,7 +6,7 @@ ghost use Rattle.slots.specs.Replicas.{replica_at, replica_bytes, replica_in_ran
 use numbers::{ids, nodes};
 use records::Head;
 
-#[derive(Drop)]
+#[derive(Clone, Copy)]
 pub struct Replica {
     pub head: Head,
     pub version: u32,

@@ -5,7 +5,7 @@ ghost use Rattle.slots.specs.TableHeaders.{table_header_at, table_header_bytes, 
 
 use numbers::nodes;
 
-#[derive(Drop)]
+#[derive(Clone, Copy)]
 pub struct TableHeader {
     pub own: u8,
     pub nodes: u8,

@@ -12,7 +12,7 @@ use table::find::Found;
 
 // What a join comes to: the entry is added behind the others, or replaces the one in a slot, or finds
 // itself there, or a newer one; or stands with its stamp and another flag.
-#[derive(Drop)]
+#[derive(Clone, Copy)]
 pub enum Joined {
     Added,
     Replaced(usize),

@@ -8,7 +8,7 @@ use names::Name;
 use records::{Entry, Head};
 
 // A slot, or none.
-#[derive(Drop)]
+#[derive(Clone, Copy)]
 pub enum Found {
     At(usize),
     Nothing,

@@ -3,6 +3,8 @@
 //
 // A function below the judgement asks that the slice is as long as a table and that the slots it
 // is given are slots; the judgement itself asks nothing.
+#![tactic(auto)]
+
 mod counts;
 pub mod find;
 mod hints;

@@ -6,6 +6,8 @@
 // Proved here is that it is safe and ends. What it prints is held to `stdout`, which was read against
 // document 01; `document` has both runs computed from the definitions. What opens a scene, and what it
 // says at its end after "So:", is fixed text.
+#![tactic(auto)]
+
 mod acts;
 mod agree;
 mod moved;

@@ -1,0 +1,18 @@
+-- `codec::all_are` meets its contract. The loop's invariant: all are v exactly if those from i on are.
+-- Assumes nothing.
+use Prim.Native.Nat.{◌-◌, ◌≤◌}
+use mathlib.Core.Path.{◌≡◌, refl, sym, ◌∙◌}
+use native.Mathlib.Omega.{arith}
+use lib.ListN.{length, drop}
+use borrow.Author.Tests.{eq-eqb, ne_eqb}
+use borrow.Author.Rules.{rules}
+use Rattle.codec.specs.Bytes.{all_are}
+use Rattle.codec.specs.Lists.{every_step, every_none}
+use mathlib.Core.Path.{◌≡◌, refl, ◌∙◌}
+use Rattle.codec.proofs.all_are.Given as goal
+
+abbrev pub invariant-loop-i : goal.invariant-loop-i
+invariant-loop-i l = (l.i ≤ length l.s) × (all_are l.v l.s ≡ all_are l.v (drop l.i l.s))
+
+abbrev pub decreases-loop-i : goal.decreases-loop-i
+decreases-loop-i l = length l.s - l.i

@@ -1,0 +1,10 @@
+-- `codec::is_marked` meets its contract. Assumes nothing.
+use mathlib.Core.Path.{ap, ◌∙◌}
+use mathlib.Core.List.{List}
+use Prim.Native.Nat.{ℕ}
+use borrow.Author.Rules.{rules}
+use Rattle.codec.specs.Bytes.{same_bytes}
+use Rattle.codec.proofs.is_marked.Goals as goal
+
+pub returns : goal.returns
+returns c = c.same_bytes.ensures ∙ ap (λ (l : List ℕ). same_bytes l c.args.mark) c.part.ensures

@@ -1,0 +1,24 @@
+-- `codec::past_zeros` meets its contract. The loop's invariant: all are zero exactly if those from i on are.
+-- Assumes nothing.
+use Prim.Native.Nat.{◌-◌, ◌≤◌}
+use mathlib.Core.Path.{◌≡◌, refl, sym, ◌∙◌}
+use native.Mathlib.Omega.{arith}
+use lib.ListN.{length, drop}
+use borrow.Author.Rules.{rules}
+use Rattle.codec.specs.Bytes.{all_are}
+use Rattle.codec.specs.Laws.{zeros_skipped}
+use Rattle.codec.proofs.past_zeros.Goals as goal
+
+pub loop-i-init : goal.loop-i-init
+loop-i-init c = (search rules, refl)
+
+pub returns-then-get_u64-ne0 : goal.returns-then-get_u64-ne0
+returns-then-get_u64-ne0 c = c.loop-i.invariant
+
+pub loop-i-preserved : goal.loop-i-preserved
+loop-i-preserved c =
+    let l = c.loop-i in
+    (omega arith, l.invariant.1 ∙ zeros_skipped _ l.i 8 (sym c.get_u64.ensures ∙ c.if-get_u64-ne0.false))
+
+pub returns : goal.returns
+returns c = c.loop-i.invariant
