@@ -1,0 +1,37 @@
+-- `names::is_clean` meets its contract. The loop's invariant: all are clean exactly if those from i on are.
+-- Assumes nothing.
+use Prim.Native.Nat.{◌-◌, ◌≤◌}
+use mathlib.Core.Path.{◌≡◌, refl, sym, ◌∙◌}
+use native.Mathlib.Omega.{arith}
+use lib.ListN.{length, drop}
+use borrow.Author.Tests.{eq-eqb, ne_eqb}
+use borrow.Author.Rules.{rules}
+use Rattle.names.specs.Names.{clean}
+use Rattle.codec.specs.Lists.{every_step, every_none}
+use Rattle.names.proofs.is_clean.Goals as goal
+
+pub loop-i-init : goal.loop-i-init
+loop-i-init c = (search rules, refl)
+
+pub returns-then-s-i-eq0 : goal.returns-then-s-i-eq0
+returns-then-s-i-eq0 c =
+    let l = c.loop-i in
+    sym (l.invariant.1 ∙ every_step _ _ 0 _ c.loop-i-test.true ∙ simp (eq-eqb _ _ c.if-s-i-eq0.true))
+
+pub returns-then-s-i-eq47 : goal.returns-then-s-i-eq47
+returns-then-s-i-eq47 c =
+    let l = c.loop-i in
+    sym
+    (l.invariant.1 ∙ every_step _ _ 0 _ c.loop-i-test.true
+    ∙ simp (ne_eqb _ _ c.if-s-i-eq0.false, eq-eqb _ _ c.if-s-i-eq47.true))
+
+pub loop-i-preserved : goal.loop-i-preserved
+loop-i-preserved c =
+    let l = c.loop-i in (
+      omega arith,
+      l.invariant.1 ∙ every_step _ _ 0 _ c.loop-i-test.true
+          ∙ simp (ne_eqb _ _ c.if-s-i-eq0.false, ne_eqb _ _ c.if-s-i-eq47.false),
+    )
+
+pub returns : goal.returns
+returns c = sym (c.loop-i.invariant.1 ∙ every_none _ _ _ c.loop-i-test.false)

@@ -1,0 +1,8 @@
+-- `numbers::nodes::join` meets its contract. Assumes nothing.
+use mathlib.Core.Path.{refl}
+use Rattle.numbers.specs.Nodes.{join}
+use Rattle.numbers.proofs.nodes.join.Goals as goal
+
+pub returns : goal.returns
+unfolding join
+returns c = refl

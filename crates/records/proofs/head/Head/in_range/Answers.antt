@@ -1,0 +1,25 @@
+-- `records::head::Head::in_range` meets its contract: the mark, the zeros, the fields. Assumes nothing.
+use mathlib.Core.Path.{ap, sym, ◌∙◌}
+use Rattle.codec.specs.Lists.{and_go, and_stop, failed, passed}
+use Rattle.records.specs.Heads.{head_fits, head_range_law}
+use borrow.Author.Rules.{rules}
+use Rattle.records.proofs.head.Head.in_range.Goals as goal
+
+pub returns-then-not-is_marked : goal.returns-then-not-is_marked
+returns-then-not-is_marked c =
+    and_stop _ _ (sym c.is_marked.ensures ∙ c.if-not-is_marked.true) ∙ sym (head_range_law c.args.n
+    c.args.t.now c.args.o)
+
+pub returns-then-not-is_zero : goal.returns-then-not-is_zero
+returns-then-not-is_zero c =
+    and_go _ _ (sym c.is_marked.ensures ∙ c.if-not-is_marked.false) (and_stop
+    _ _ (sym c.is_zero.ensures ∙ c.if-not-is_zero.true)) ∙ sym (head_range_law c.args.n
+    c.args.t.now c.args.o)
+
+pub returns : goal.returns
+returns c =
+    and_go _ _ (sym c.is_marked.ensures ∙ c.if-not-is_marked.false)
+    (and_go _ _ (sym c.is_zero.ensures ∙ c.if-not-is_zero.false) (c.fits.ensures
+    ∙ ap (head_fits c.args.n) c.read.ensures))
+    ∙ sym (head_range_law c.args.n c.args.t.now
+    c.args.o)

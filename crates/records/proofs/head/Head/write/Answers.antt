@@ -1,0 +1,16 @@
+-- `records::head::Head::write` meets its contract: its stores, one behind the other, are the record's bytes. Assumes nothing.
+use mathlib.Core.Path.{◌∙◌}
+use Rattle.codec.specs.Laws.{after}
+use Rattle.records.specs.Heads.{head_stores}
+use borrow.Author.Rules.{rules}
+use Rattle.records.proofs.head.Head.write.Goals as goal
+
+pub returns : goal.returns
+returns c =
+    after _ _ c.write.ensures
+    (after _ _ c.put_u32-2.ensures
+    (after _ _ c.put_four-2.ensures
+    (after _ _ c.put_u64.ensures
+    (after _ _ c.put_u32.ensures
+    c.put_four.ensures))))
+    ∙ head_stores c.args.t.now c.args.o c.args.self c.requires
