@@ -1,4 +1,4 @@
 pub mod Answers
-pub mod Contracts
+pub mod Forms
 pub mod Held
 pub mod Outputs

@@ -2,7 +2,7 @@
 // back, if there is room and nothing is past its end.
 ghost use Rattle.std.specs.Prelude.{◌≡◌, length};
 ghost use Rattle.document.specs.Tables.{table_of};
-ghost use Rattle.answers.specs.Contracts.{Answered, Leaves};
+ghost use Rattle.answers.specs.Forms.{Answered, Leaves};
 ghost use Rattle.changes.specs.Finishing.{Ends, Changes, ended, changed};
 
 use answers::Answer;

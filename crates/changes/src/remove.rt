@@ -4,7 +4,7 @@ ghost use Rattle.std.specs.Prelude.{◌≡◌, true};
 ghost use Rattle.document.specs.Tables.{table_of};
 ghost use Rattle.document.specs.Sound.{sound_bytes};
 ghost use Rattle.document.specs.Calls.{remove_in};
-ghost use Rattle.answers.specs.Contracts.{Answered, Leaves};
+ghost use Rattle.answers.specs.Forms.{Answered, Leaves};
 ghost use Rattle.changes.specs.Killing.{Takes};
 
 use crate::{look, unlink};

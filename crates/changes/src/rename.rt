@@ -4,7 +4,7 @@ ghost use Rattle.document.specs.Tables.{table_of};
 ghost use Rattle.document.specs.Sound.{sound_bytes};
 ghost use Rattle.document.specs.Steps.{with_place};
 ghost use Rattle.document.specs.Calls.{rename_in};
-ghost use Rattle.answers.specs.Contracts.{Answered, Leaves};
+ghost use Rattle.answers.specs.Forms.{Answered, Leaves};
 ghost use Rattle.changes.specs.Renaming.{Moves, moves, renamed_in, Renames};
 
 use crate::{finish, look};

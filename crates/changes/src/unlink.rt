@@ -4,7 +4,7 @@ ghost use Rattle.document.specs.Tables.{table_of};
 ghost use Rattle.document.specs.Sound.{sound_bytes};
 ghost use Rattle.document.specs.Steps.{with_state};
 ghost use Rattle.document.specs.Calls.{unlink_in};
-ghost use Rattle.answers.specs.Contracts.{Answered, Leaves};
+ghost use Rattle.answers.specs.Forms.{Answered, Leaves};
 ghost use Rattle.changes.specs.Killing.{Kills, kills, Takes};
 
 use crate::{finish, look};

@@ -8,7 +8,7 @@ use Rattle.std.proofs.Common.{sym, ◌∙◌}
 use Rattle.document.specs.Outcomes.{Outcome}
 use Rattle.document.specs.Calls.{start, create, unlink, rename, remove, spread, list, push, receive, acknowledged, pending}
 use Rattle.service.specs.Promises.{StartPromise, CreatePromise, UnlinkPromise, RenamePromise, RemovePromise, SpreadPromise, ListPromise, PushPromise, ReceivePromise, AcknowledgedPromise, PendingPromise}
-use Rattle.answers.specs.Contracts.{Answered, Packed, Leaves, Writes, LeavesAndWrites, OneAnswer, answered_once, packed_once}
+use Rattle.answers.specs.Forms.{Answered, Packed, Leaves, Writes, LeavesAndWrites, OneAnswer, answered_once, packed_once}
 
 -- only one answer; only one with one content of a buffer; only one with one content of two
 abbrev pub Only : {A : Type 0} → (A → Type 0) → Type 0

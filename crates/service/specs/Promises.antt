@@ -4,7 +4,7 @@
 use Rattle.std.specs.Prelude.{List, ℕ, length}
 use Rattle.document.specs.Outcomes.{Outcome}
 use Rattle.document.specs.Calls.{start, create, unlink, rename, remove, spread, list, push, receive, acknowledged, pending}
-use Rattle.answers.specs.Contracts.{Leaves, Writes, LeavesAndWrites}
+use Rattle.answers.specs.Forms.{Leaves, Writes, LeavesAndWrites}
 
 abbrev pub StartPromise : {A : Type 0} → (Outcome → A → Type 0) → List ℕ → ℕ → ℕ → A → List ℕ → Type 0
 StartPromise P l node n r m = Leaves P (start l node n) r l m

@@ -3,7 +3,7 @@ ghost use Rattle.std.specs.Prelude.{◌≡◌, true};
 ghost use Rattle.document.specs.Tables.{table_of};
 ghost use Rattle.document.specs.Sound.{sound_bytes};
 ghost use Rattle.document.specs.Calls.{clear_in};
-ghost use Rattle.answers.specs.Contracts.{Answered, Leaves};
+ghost use Rattle.answers.specs.Forms.{Answered, Leaves};
 ghost use Rattle.service.specs.Acknowledging.{is_ack, Clears};
 ghost use Rattle.service.specs.Promises.{AcknowledgedPromise};
 

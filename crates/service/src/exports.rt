@@ -1,5 +1,5 @@
 // The exported twins of the calls, for C and Rust: each answers number * 4294967296 + value.
-ghost use Rattle.answers.specs.Contracts.{Packed};
+ghost use Rattle.answers.specs.Forms.{Packed};
 ghost use Rattle.service.specs.Promises.{AcknowledgedPromise, CreatePromise, ListPromise, PendingPromise, PushPromise, ReceivePromise, RemovePromise, RenamePromise, SpreadPromise, StartPromise, UnlinkPromise};
 
 #[unsafe(no_mangle)]

@@ -5,7 +5,7 @@ ghost use Rattle.codec.specs.Bytes.{splice};
 ghost use Rattle.records.specs.Entries.{entry_bytes};
 ghost use Rattle.document.specs.Tables.{head_of, rows, table_of};
 ghost use Rattle.document.specs.Calls.{list_in};
-ghost use Rattle.answers.specs.Contracts.{Answered, Writes};
+ghost use Rattle.answers.specs.Forms.{Answered, Writes};
 ghost use Rattle.service.specs.Listing.{shown_at, shown_in};
 ghost use Rattle.service.specs.Promises.{ListPromise};
 

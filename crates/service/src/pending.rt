@@ -2,7 +2,7 @@
 ghost use Rattle.std.specs.Prelude.{◌≡◌, ◌≤◌, length};
 ghost use Rattle.document.specs.Tables.{slots_from, replica_in};
 ghost use Rattle.document.specs.Calls.{pending_sum};
-ghost use Rattle.answers.specs.Contracts.{Answered};
+ghost use Rattle.answers.specs.Forms.{Answered};
 ghost use Rattle.service.specs.Promises.{PendingPromise};
 
 use answers::Answer;

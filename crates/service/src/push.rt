@@ -2,7 +2,7 @@
 ghost use Rattle.std.specs.Prelude.{length};
 ghost use Rattle.document.specs.Tables.{table_of};
 ghost use Rattle.document.specs.Calls.{push_in};
-ghost use Rattle.answers.specs.Contracts.{Answered, Writes};
+ghost use Rattle.answers.specs.Forms.{Answered, Writes};
 ghost use Rattle.service.specs.Pushing.{Pushes};
 ghost use Rattle.service.specs.Promises.{PushPromise};
 

@@ -7,7 +7,7 @@ ghost use Rattle.document.specs.Messages.{message_of};
 ghost use Rattle.document.specs.Receive.{ack_for};
 ghost use Rattle.document.specs.Calls.{take_in};
 ghost use Rattle.merge.specs.Merging.{Merges};
-ghost use Rattle.answers.specs.Contracts.{Answered, Leaves};
+ghost use Rattle.answers.specs.Forms.{Answered, Leaves};
 ghost use Rattle.service.specs.Receiving.{Received, Receives, merged_in};
 ghost use Rattle.service.specs.Promises.{ReceivePromise};
 

@@ -2,7 +2,7 @@
 ghost use Rattle.std.specs.Prelude.{◌≡◌, ◌≤◌, length};
 ghost use Rattle.codec.specs.Bytes.{zeros};
 ghost use Rattle.document.specs.Tables.{fresh, table_bytes};
-ghost use Rattle.answers.specs.Contracts.{Answered};
+ghost use Rattle.answers.specs.Forms.{Answered};
 ghost use Rattle.service.specs.Promises.{StartPromise};
 
 use answers::Answer;

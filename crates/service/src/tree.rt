@@ -1,6 +1,6 @@
 // The calls that change the tree: create, unlink, rename, remove, spread. The table is judged here; the
 // rest is done in `changes`.
-ghost use Rattle.answers.specs.Contracts.{Answered};
+ghost use Rattle.answers.specs.Forms.{Answered};
 ghost use Rattle.service.specs.Promises.{CreatePromise, RemovePromise, RenamePromise, SpreadPromise, UnlinkPromise};
 
 use answers::Answer;

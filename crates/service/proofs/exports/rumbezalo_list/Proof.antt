@@ -1,6 +1,6 @@
 -- `service::exports::rumbezalo_list` meets its contract: the call's answer in one number. Assumes nothing.
 use borrow.Author.Rules.{rules}
-use Rattle.answers.specs.Contracts.{packs}
+use Rattle.answers.specs.Forms.{packs}
 use Rattle.service.proofs.exports.rumbezalo_list.Statement.{statement}
 use Rattle.service.proofs.exports.rumbezalo_list.Tie as tie
 

@@ -1,0 +1,13 @@
+-- `slots::listed::Listed::write` meets its contract: its stores, one behind the other, are the record's bytes. Assumes nothing.
+use mathlib.Core.Path.{◌∙◌}
+use Rattle.codec.specs.Laws.{after}
+use Rattle.slots.specs.Listings.{listed_stores}
+use borrow.Author.Rules.{rules}
+use Rattle.slots.proofs.listed.Listed.write.Goals as goal
+
+pub returns : goal.returns
+returns c =
+    after _ _ c.put_u32-2.ensures
+    (after _ _ c.put_u32.ensures
+    c.write.ensures)
+    ∙ listed_stores c.args.t.now c.args.o c.args.self c.requires

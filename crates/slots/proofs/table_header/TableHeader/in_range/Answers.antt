@@ -1,0 +1,24 @@
+-- `slots::table_header::TableHeader::in_range` meets its contract: the mark, the zeros, the fields. Assumes nothing.
+use mathlib.Core.Path.{ap, sym, ◌∙◌}
+use Rattle.codec.specs.Lists.{and_go, and_stop, failed, passed}
+use Rattle.slots.specs.TableHeaders.{table_header_fits, table_range}
+use borrow.Author.Rules.{rules}
+use Rattle.slots.proofs.table_header.TableHeader.in_range.Goals as goal
+
+pub returns-then-not-is_marked : goal.returns-then-not-is_marked
+returns-then-not-is_marked c =
+    and_stop _ _ (sym c.is_marked.ensures ∙ c.if-not-is_marked.true) ∙ sym (table_range c.args.t.now
+    c.args.o)
+
+pub returns-then-not-is_zero : goal.returns-then-not-is_zero
+returns-then-not-is_zero c =
+    and_go _ _ (sym c.is_marked.ensures ∙ c.if-not-is_marked.false) (and_stop
+    _ _ (sym c.is_zero.ensures ∙ c.if-not-is_zero.true)) ∙ sym (table_range c.args.t.now
+    c.args.o)
+
+pub returns : goal.returns
+returns c =
+    and_go _ _ (sym c.is_marked.ensures ∙ c.if-not-is_marked.false)
+    (and_go _ _ (sym c.is_zero.ensures ∙ c.if-not-is_zero.false) (c.fits.ensures
+    ∙ ap table_header_fits c.read.ensures)) ∙ sym (table_range c.args.t.now
+    c.args.o)

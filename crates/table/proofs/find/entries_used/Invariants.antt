@@ -1,0 +1,19 @@
+-- `table::find::entries_used` meets its contract. The loop's invariant: i slots are used, and those that are used from i on.
+-- Assumes nothing.
+use mathlib.Core.Path.{◌≡◌}
+use Prim.Native.Nat.{◌+◌, ◌*◌, ◌-◌, ◌≤◌}
+use native.Mathlib.Omega.{arith}
+use borrow.Author.Rules.{rules}
+use Rattle.codec.specs.Lists.{passed, failed}
+use Rattle.records.specs.Entries.{entry_mark}
+use Rattle.document.specs.Tables.{entries_used, used}
+use Rattle.table.specs.Slots.{used_step, used_none}
+use mathlib.Core.Path.{◌≡◌}
+use Prim.Native.Nat.{◌+◌, ◌*◌, ◌-◌, ◌≤◌}
+use Rattle.table.proofs.find.entries_used.Given as goal
+
+abbrev pub invariant-loop-i : goal.invariant-loop-i
+invariant-loop-i l = (l.i ≤ 256) × (entries_used l.t ≡ l.i + used entry_mark l.t (3104 + 40 * l.i) 40 (256 - l.i))
+
+abbrev pub decreases-loop-i : goal.decreases-loop-i
+decreases-loop-i l = 256 - l.i

@@ -1,0 +1,17 @@
+-- `table::range::entries_in_range` meets its contract. The loop's invariant: all are exactly if those from i on are. Assumes nothing.
+use mathlib.Core.Path.{◌≡◌, refl, sym, ◌∙◌}
+use Prim.Native.Nat.{◌-◌, ◌≤◌}
+use native.Mathlib.Omega.{arith}
+use native.Mathlib.Nat.{sub-zero}
+use borrow.Author.Rules.{rules}
+use Rattle.codec.specs.Lists.{and_stop, and_go, passed, failed}
+use Rattle.document.specs.Tables.{every_slot}
+use Rattle.table.specs.Ranges.{entry_slot_fits}
+use Rattle.table.specs.Slots.{slots_step, slots_none}
+use Rattle.table.proofs.range.entries_in_range.Given as goal
+
+abbrev pub invariant-loop-i : goal.invariant-loop-i
+invariant-loop-i l = (l.i ≤ l.k) × (every_slot (entry_slot_fits l.n l.t) 0 l.k ≡ every_slot (entry_slot_fits l.n l.t) l.i (l.k - l.i))
+
+abbrev pub decreases-loop-i : goal.decreases-loop-i
+decreases-loop-i l = l.k - l.i

@@ -1,0 +1,22 @@
+-- `table::rules::id_is_new` meets its contract. The loop's invariant: it is new exactly if none from i on has the id.
+-- Assumes nothing.
+use mathlib.Core.Path.{◌≡◌, refl, ap, sym, ◌∙◌}
+use Prim.Native.Nat.{ℕ, ◌-◌, ◌≤◌}
+use native.Mathlib.Omega.{arith}
+use borrow.Author.Rules.{rules}
+use mathlib.Core.Bool.{not}
+use Rattle.codec.specs.Lists.{and_stop, and_go}
+use borrow.Author.Tests.{eq-eqb, ne_eqb}
+use Rattle.document.specs.Tables.{every_slot, replica_in}
+use Rattle.document.specs.Sound.{same_id}
+use Rattle.table.specs.Rules.{id_new}
+use Rattle.table.specs.Slots.{slots_step, slots_none, id_at}
+use Rattle.table.proofs.rules.id_is_new.Given as goal
+
+abbrev pub invariant-loop-i : goal.invariant-loop-i
+invariant-loop-i l =
+    (l.i ≤ l.m) × (l.id ≡ (replica_in l.t l.s).head.id)
+    × (id_new l.t l.m l.s ≡ every_slot (λ (j : ℕ). not (same_id (replica_in l.t l.s) (replica_in l.t j))) l.i (l.m - l.i))
+
+abbrev pub decreases-loop-i : goal.decreases-loop-i
+decreases-loop-i l = l.m - l.i

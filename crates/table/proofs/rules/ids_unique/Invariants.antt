@@ -1,0 +1,17 @@
+-- `table::rules::ids_unique` meets its contract. The loop's invariant: all are exactly if those from i on are. Assumes nothing.
+use mathlib.Core.Path.{◌≡◌, refl, sym, ◌∙◌}
+use Prim.Native.Nat.{◌-◌, ◌≤◌}
+use native.Mathlib.Omega.{arith}
+use native.Mathlib.Nat.{sub-zero}
+use borrow.Author.Rules.{rules}
+use Rattle.codec.specs.Lists.{and_stop, and_go, passed, failed}
+use Rattle.document.specs.Tables.{every_slot}
+use Rattle.table.specs.Rules.{id_new}
+use Rattle.table.specs.Slots.{slots_step, slots_none}
+use Rattle.table.proofs.rules.ids_unique.Given as goal
+
+abbrev pub invariant-loop-i : goal.invariant-loop-i
+invariant-loop-i l = (l.i ≤ l.m) × (every_slot (id_new l.t l.m) 0 l.m ≡ every_slot (id_new l.t l.m) l.i (l.m - l.i))
+
+abbrev pub decreases-loop-i : goal.decreases-loop-i
+decreases-loop-i l = l.m - l.i
