@@ -48,6 +48,7 @@ grown_refl t = record { replicas = grows_refl SameId _ (λ r. refl) t.replicas; 
 grows_none : (Q : Replica → Type 0) (f : ℕ) (xs ys : List Replica) → Grows SameId Q xs ys → find f ys ≡ none → find f xs ≡ none
 unfolding first
 grows_none Q f [] ys (rest e) n = refl
+grows_none Q f (x ∷ xs) [] x4 n = elim x4 [ ]
 grows_none Q f (x ∷ xs) (y ∷ ys) (next r g) n =
     go (has_id f y) (has_id f x) (ap (λ (i : ℕ). eqb i f) r) n (grows_none Q f xs ys g)
   where
@@ -73,6 +74,7 @@ grows_put : (old : List Replica) (h : Head) (xs ys : List Replica) → (find h.i
     Grows SameId (NotIn old) xs ys → Grows SameId (NotIn old) xs (put_head h ys)
 unfolding put_head first
 grows_put old h [] ys n (rest e) = rest (each_put old h ys n e)
+grows_put old h (x ∷ xs) [] n x4 = elim x4 [ ]
 grows_put old h (x ∷ xs) (y ∷ ys) n (next r g) = go (has_id h.id y) refl n (λ m. grows_put old h xs ys m g)
   where
     go : (b : Bool) → has_id h.id y ≡ b → (cond b (some y) (find h.id ys) ≡ none → find h.id old ≡ none) →
@@ -91,6 +93,7 @@ each_join e ys = everything (join_into e ys)
 grows_join : (e : Listed) (xs ys : List Listed) → Grows SameDirectory Anything xs ys → Grows SameDirectory Anything xs (join_into e ys)
 unfolding join_into
 grows_join e [] ys (rest k) = rest (each_join e ys)
+grows_join e (x ∷ xs) [] x3 = elim x3 [ ]
 grows_join e (x ∷ xs) (y ∷ ys) (next r g) = go (same_key e y) refl (grows_join e xs ys g)
   where
     go : (b : Bool) → same_key e y ≡ b → Grows SameDirectory Anything xs (join_into e ys) →
@@ -135,6 +138,7 @@ pub grows_slots : {A : Type 0} (R : A → A → Type 0) (Q : A → Type 0) (f g 
 unfolding slots_from
 grows_slots R Q f g s zero n (rest e) =
     record { more = omega arith; same = λ i low high. absurd (omega arith); new = λ i low high. each_slots Q g s n e i (omega arith) high }
+grows_slots {A = A} R Q f g s (suc m) zero x'' = elim x'' [ ]
 grows_slots R Q f g s (suc m) (suc n) (next r k) =
     let p = grows_slots R Q f g (suc s) m n k in
     record {

@@ -425,6 +425,7 @@ module _ (old t : Table) where
     unfolding settled_to
     grows_to zero xs ys g = g
     grows_to (suc i) [] ys (rest e) = rest (each_to (suc i) ys e)
+    grows_to (suc i) (x ∷ xs) [] g = elim g [ ]
     grows_to (suc i) (x ∷ xs) (y ∷ ys) (next r g) =
         next {x = x} {y = settled old t y} (settled_id y ∙ r) (grows_to i xs ys g)
 

@@ -1,0 +1,61 @@
+-- `judge::heads::agrees` meets its contract: one that is held, or one that is not. Assumes nothing.
+use mathlib.Core.Path.{ap, sym, ◌∙◌}
+use mathlib.Core.Option.{some}
+use native.Mathlib.Omega.{arith}
+use Rattle.document.specs.Tables.{table_of}
+use Rattle.document.specs.Reading.{few_replicas}
+use Rattle.table.specs.Rules.{found_head, not_found}
+use Rattle.judge.specs.Deciding.{agrees_held, agrees_absent}
+use Rattle.judge.proofs.heads.agrees.Goals as goal
+
+pub replica-found-requires : goal.replica-found-requires
+replica-found-requires c = (c.requires.0, omega (arith, c.requires.1, few_replicas c.args.t.now))
+
+pub returns-in_default : goal.returns-in_default
+returns-in_default c =
+    let a = c.args in
+    let pre = c.requires in
+    let replica = c.replica-found in
+    let none =
+    not_found a.t.now a.m a.h.id pre.1 (sym replica.ensures ∙ c.in_default.is) in
+    agrees_absent (table_of a.t.now) a.h _ none c.is_foreign.ensures
+
+pub overflow_mul-i : goal.overflow_mul-i
+overflow_mul-i c =
+    let a = c.args in
+    let pre = c.requires in
+    let replica = c.replica-found in
+    let f =
+    found_head a.t.now a.m a.h.id c.in-At.i pre.1
+    (sym replica.ensures ∙ c.in-At.is) in
+    omega (arith, f.0, pre.1, few_replicas a.t.now)
+
+pub overflow_add-i : goal.overflow_add-i
+overflow_add-i c =
+    let a = c.args in
+    let pre = c.requires in
+    let replica = c.replica-found in
+    let f =
+    found_head a.t.now a.m a.h.id c.in-At.i pre.1
+    (sym replica.ensures ∙ c.in-At.is) in
+    omega (arith, f.0, pre.1, few_replicas a.t.now)
+
+pub read-requires : goal.read-requires
+read-requires c =
+    let a = c.args in
+    let pre = c.requires in
+    let replica = c.replica-found in
+    let f =
+    found_head a.t.now a.m a.h.id c.in-At.i pre.1
+    (sym replica.ensures ∙ c.in-At.is) in
+    omega (arith, f.0, pre.0, pre.1, few_replicas a.t.now)
+
+pub returns : goal.returns
+returns c =
+    let a = c.args in
+    let pre = c.requires in
+    let replica = c.replica-found in
+    let f =
+    found_head a.t.now a.m a.h.id c.in-At.i pre.1
+    (sym replica.ensures ∙ c.in-At.is) in
+    agrees_held (table_of a.t.now) a.h _ _ (f.1 ∙ ap some (sym c.read.ensures)) c.is_like.ensures

@@ -1,0 +1,14 @@
+-- `judge::heads::is_foreign` meets its contract. Assumes nothing.
+use mathlib.Core.Path.{◌≡◌, ap, ◌∙◌}
+use Rattle.slots.specs.declared.table_header.TableHeader.{TableHeader}
+use Rattle.document.specs.Tables.{table_of}
+use Rattle.steps.specs.States.{header_read}
+use Rattle.judge.proofs.heads.is_foreign.Goals as goal
+
+pub returns : goal.returns
+returns c =
+    let a = c.args in
+    let read = c.read-header in
+    let own : read.result.own ≡ (table_of a.t.now).own =
+    ap (λ (z : TableHeader). z.own) (read.ensures ∙ header_read a.t.now) in
+    cc (own, c.maker.ensures)

@@ -1,0 +1,41 @@
+-- `judge::joins::above_agree` meets its contract. The loop's invariant: all agree exactly if those from j on do.
+-- Assumes nothing.
+use mathlib.Core.Path.{◌≡◌, refl, ap, sym, ◌∙◌}
+use Prim.Native.Nat.{ℕ, ◌-◌, ◌≤◌}
+use native.Mathlib.Omega.{arith}
+use Rattle.codec.specs.Lists.{and_stop, and_go, failed, passed}
+use Rattle.document.specs.Tables.{every_slot, table_of}
+use Rattle.table.specs.Slots.{slots_step, slots_none}
+use Rattle.judge.specs.Judging.{made_agrees, above_agree}
+use Rattle.document.specs.ReadingMessages.{head_in}
+use Rattle.judge.proofs.joins.above_agree.Goals as goal
+
+pub loop-j-init : goal.loop-j-init
+loop-j-init c =
+    let pre = c.requires in
+    (omega (arith, pre), refl)
+
+pub returns-then-not-made_agrees : goal.returns-then-not-made_agrees
+returns-then-not-made_agrees c =
+    let a = c.args in
+    let loop = c.loop-j in
+    let loop-test = c.loop-j-test in
+    let read = c.read in
+    let here =
+    c.made_agrees.ensures ∙ ap (made_agrees (table_of a.t.now)) read.ensures in
+    and_stop _ _ (sym here ∙ c.if-not-made_agrees.true) ∙ sym (loop.invariant.1 ∙ slots_step _ _ _ loop-test.true)
+
+pub loop-j-preserved : goal.loop-j-preserved
+loop-j-preserved c =
+    let a = c.args in
+    let loop = c.loop-j in
+    let loop-test = c.loop-j-test in
+    let read = c.read in
+    let here =
+    c.made_agrees.ensures ∙ ap (made_agrees (table_of a.t.now)) read.ensures in (
+      omega (arith, loop-test.true),
+      loop.invariant.1 ∙ slots_step _ _ _ loop-test.true ∙ sym (and_go _ _ (sym here ∙ c.if-not-made_agrees.false) refl),
+    )
+
+pub returns : goal.returns
+returns c = sym (c.loop-j.invariant.1 ∙ slots_none _ _ _ c.loop-j-test.false)

@@ -1,0 +1,47 @@
+-- `judge::joins::entries_agree` meets its contract. The loop's invariant: all agree exactly if those from j on do.
+-- Assumes nothing.
+use mathlib.Core.Path.{◌≡◌, refl, ap, sym, ◌∙◌}
+use mathlib.Core.Bool.{not}
+use Prim.Native.Nat.{ℕ, ◌-◌, ◌≤◌}
+use native.Mathlib.Omega.{arith}
+use native.Mathlib.Nat.{sub-zero}
+use Rattle.codec.specs.Lists.{and_stop, and_go, failed, passed}
+use Rattle.records.specs.declared.entry.Entry.{Entry}
+use Rattle.records.specs.Entries.{entry_at}
+use Rattle.document.specs.Tables.{every_slot, table_of}
+use Rattle.document.specs.Steps.{odd_join}
+use Rattle.document.specs.Messages.{entry_spot}
+use Rattle.document.specs.Receive.{listed_in}
+use Rattle.table.specs.Slots.{slots_step, slots_none}
+use Rattle.judge.specs.Judging.{entries_agree}
+use Rattle.judge.proofs.joins.entries_agree.Goals as goal
+
+pub loop-j-init : goal.loop-j-init
+loop-j-init c = (omega arith, simp sub-zero)
+
+pub returns-then-not-agrees : goal.returns-then-not-agrees
+returns-then-not-agrees c =
+    let a = c.args in
+    let loop = c.loop-j in
+    let loop-test = c.loop-j-test in
+    let read = c.read-entry in
+    let here =
+    c.agrees.ensures
+    ∙ ap (λ (e : Entry). not (odd_join (listed_in a.d e) (table_of a.t.now))) read.ensures in
+    and_stop _ _ (sym here ∙ c.if-not-agrees.true) ∙ sym (loop.invariant.1 ∙ slots_step _ _ _ loop-test.true)
+
+pub loop-j-preserved : goal.loop-j-preserved
+loop-j-preserved c =
+    let a = c.args in
+    let loop = c.loop-j in
+    let loop-test = c.loop-j-test in
+    let read = c.read-entry in
+    let here =
+    c.agrees.ensures
+    ∙ ap (λ (e : Entry). not (odd_join (listed_in a.d e) (table_of a.t.now))) read.ensures in (
+      omega (arith, loop-test.true),
+      loop.invariant.1 ∙ slots_step _ _ _ loop-test.true ∙ sym (and_go _ _ (sym here ∙ c.if-not-agrees.false) refl),
+    )
+
+pub returns : goal.returns
+returns c = sym (c.loop-j.invariant.1 ∙ slots_none _ _ _ c.loop-j-test.false)

@@ -1,0 +1,59 @@
+-- `merge::clocks::of_entries` meets its contract. The loop's invariant: the clocks that are left lead to the answer.
+-- Assumes nothing.
+use native.Mathlib.Omega.{arith}
+use mathlib.Core.Path.{◌≡◌, ap, sym, ◌∙◌}
+use Prim.Native.Nat.{ℕ, ◌+◌, ◌-◌, ◌*◌, ◌≤◌}
+use Rattle.document.specs.Tables.{slots_from}
+use Rattle.document.specs.Receive.{highest}
+use Rattle.merge.specs.Clocks.{entry_stamp, high_start, high_next, high_end}
+use Rattle.records.specs.declared.entry.Entry.{Entry}
+use Rattle.records.specs.Entries.{entry_at}
+use Rattle.merge.proofs.clocks.of_entries.Goals as goal
+
+pub loop-i-init : goal.loop-i-init
+loop-i-init c =
+    let args = c.args in
+    (omega arith, high_start (entry_stamp args.message.now) args.k args.clock)
+
+pub overflow_mul-n : goal.overflow_mul-n
+overflow_mul-n c =
+    let pre = c.requires in
+    omega (arith, c.loop-i-test.true, pre.1, c.shared_slice_known-1.given 0)
+
+pub overflow_add-n : goal.overflow_add-n
+overflow_add-n c =
+    let pre = c.requires in
+    omega (arith, c.loop-i-test.true, pre.1, c.shared_slice_known-1.given 0)
+
+pub overflow_mul-i : goal.overflow_mul-i
+overflow_mul-i c =
+    let pre = c.requires in
+    omega (arith, c.loop-i-test.true, pre.1, c.shared_slice_known-1.given 0)
+
+pub overflow_add-n-in-loop-i : goal.overflow_add-n-in-loop-i
+overflow_add-n-in-loop-i c =
+    let pre = c.requires in
+    omega (arith, c.loop-i-test.true, pre.1, c.shared_slice_known-1.given 0)
+
+pub read-requires : goal.read-requires
+read-requires c = omega (arith, c.loop-i-test.true, c.requires.1)
+
+pub loop-i-preserved : goal.loop-i-preserved
+loop-i-preserved c =
+    let args = c.args in
+    let pre = c.requires in
+    let loop = c.loop-i in
+    let loop-test = c.loop-i-test in
+    let stamp = ap (λ (z : Entry). z.stamp) c.read.ensures
+    ∙ ap (λ (m : ℕ). (entry_at args.message.now (16 + 40 * m + 32 * loop.i)).stamp) pre.0 in (
+      omega (arith, loop-test.true),
+      high_next (entry_stamp args.message.now) args.k loop.i loop.c _
+          c.later-c.result loop-test.true stamp c.later-c.ensures ∙ loop.invariant.1,
+    )
+
+pub returns : goal.returns
+returns c =
+    let args = c.args in
+    let loop = c.loop-i in
+    sym (high_end (entry_stamp args.message.now) args.k loop.i loop.c
+    (omega (arith, c.loop-i-test.false))) ∙ loop.invariant.1

@@ -1,0 +1,18 @@
+-- `merge::clocks::of_heads` meets its contract. The loop's invariant: the clocks that are left lead to the answer.
+-- Assumes nothing.
+use native.Mathlib.Omega.{arith}
+use mathlib.Core.Path.{◌≡◌, ap, sym, ◌∙◌}
+use Prim.Native.Nat.{◌-◌, ◌≤◌}
+use Rattle.document.specs.Tables.{slots_from}
+use Rattle.document.specs.Receive.{highest}
+use Rattle.merge.specs.Clocks.{head_stamp, high_start, high_next, high_end}
+use Rattle.records.specs.declared.head.Head.{Head}
+use Rattle.merge.proofs.clocks.of_heads.Given as goal
+
+abbrev pub invariant-loop-i : goal.invariant-loop-i
+invariant-loop-i l =
+    (l.i ≤ l.n) × (highest l.c (slots_from (head_stamp l.message) l.i (l.n - l.i)) ≡ highest l.clock (slots_from (head_stamp l.message) 0 l.n))
+
+abbrev pub decreases-loop-i : goal.decreases-loop-i
+decreases-loop-i l =
+    l.n - l.i

@@ -1,0 +1,74 @@
+-- `merge::entries::set_above` meets its contract. The loop's invariant: the heads from j on are through. Assumes nothing.
+use native.Mathlib.Omega.{arith}
+use mathlib.Core.Path.{refl, ap, sym, subst}
+use Prim.Native.Nat.{ℕ}
+use Rattle.codec.specs.Lists.{passed, failed}
+use Rattle.messages.specs.declared.push_header.PushHeader.{PushHeader}
+use Rattle.document.specs.Tables.{table_of}
+use Rattle.merge.specs.Entries.{Setting, setting_start, setting_turn, setting_full, setting_end, setting_held_now}
+use mathlib.Core.Path.{◌∙◌}
+use Rattle.merge.proofs.entries.set_above.Goals as goal
+
+pub read-j-requires : goal.read-j-requires
+read-j-requires c = omega (arith, c.requires.2.size)
+
+pub loop-j-init : goal.loop-j-init
+loop-j-init c =
+    let args = c.args in
+    let pre = c.requires in
+    let e = ap (λ (z : PushHeader). z.heads) c.read-j.ensures in
+    subst (λ (k : ℕ). Setting args.message.now (table_of args.old.now) (table_of args.t.now) k
+    args.t.now) (sym e) (setting_start args.message.now (table_of args.old.now) (table_of args.t.now)
+    pre.2.one pre.0 refl pre.3)
+
+pub overflow_mul-j : goal.overflow_mul-j
+overflow_mul-j c =
+    let pre = c.requires in
+    omega (arith, c.loop-j-test.true, c.loop-j.invariant.high, pre.2.size)
+
+pub overflow_add-j : goal.overflow_add-j
+overflow_add-j c =
+    let pre = c.requires in
+    omega (arith, c.loop-j-test.true, c.loop-j.invariant.high, pre.2.size)
+
+pub read-h-requires : goal.read-h-requires
+read-h-requires c =
+    let pre = c.requires in
+    omega (arith, c.loop-j-test.true, c.loop-j.invariant.high, pre.2.size)
+
+pub set_if_made-requires : goal.set_if_made-requires
+set_if_made-requires c =
+    let pre = c.requires in
+    let args = c.args in
+    let loop = c.loop-j in (
+      loop.invariant.works,
+      pre.1,
+      setting_held_now args.message.now (table_of args.old.now)
+          (table_of args.t.now) _ loop.invariant c.loop-j-test.true _ c.read-h.ensures,
+    )
+
+pub returns-then-not-set_if_made : goal.returns-then-not-set_if_made
+returns-then-not-set_if_made c =
+    let args = c.args in
+    let loop = c.loop-j in
+    let loop-test = c.loop-j-test in
+    let read2 = c.read-h in
+    let set-if-made = c.set_if_made in
+    setting_full args.message.now (table_of args.old.now) (table_of args.t.now) _ loop.invariant
+    loop-test.true _ read2.ensures _ set-if-made.ensures (sym refl ∙ c.if-not-set_if_made.true)
+
+pub loop-j-preserved : goal.loop-j-preserved
+loop-j-preserved c =
+    let args = c.args in
+    let loop = c.loop-j in
+    let loop-test = c.loop-j-test in
+    let read2 = c.read-h in
+    let set-if-made = c.set_if_made in
+    setting_turn args.message.now (table_of args.old.now) (table_of args.t.now) _ loop.invariant
+    loop-test.true _ read2.ensures _ set-if-made.ensures (sym refl ∙ c.if-not-set_if_made.false)
+
+pub returns : goal.returns
+returns c =
+    let args = c.args in
+    setting_end args.message.now (table_of args.old.now) (table_of args.t.now) _ c.loop-j.invariant
+    (λ l. omega (arith, l, c.loop-j-test.false))

@@ -1,0 +1,67 @@
+-- `merge::heads::make_above` meets its contract. The loop's invariant: the heads from j on are through. Assumes nothing.
+use native.Mathlib.Omega.{arith}
+use mathlib.Core.Path.{refl, ap, sym, subst}
+use Prim.Native.Nat.{ℕ}
+use Rattle.codec.specs.Lists.{passed, failed}
+use Rattle.messages.specs.declared.push_header.PushHeader.{PushHeader}
+use Rattle.document.specs.Tables.{table_of}
+use Rattle.merge.specs.Heads.{Making, making_start, making_turn, making_full, making_end}
+use mathlib.Core.Path.{◌∙◌}
+use Rattle.merge.proofs.heads.make_above.Goals as goal
+
+pub read-j-requires : goal.read-j-requires
+read-j-requires c = omega (arith, c.requires.2.size)
+
+pub loop-j-init : goal.loop-j-init
+loop-j-init c =
+    let args = c.args in
+    let pre = c.requires in
+    let e = ap (λ (z : PushHeader). z.heads) c.read-j.ensures in
+    subst (λ (k : ℕ). Making args.message.now (table_of args.t.now) k args.t.now) (sym e)
+    (making_start args.message.now (table_of args.t.now) pre.2.one pre.0 refl pre.1)
+
+pub overflow_mul-j : goal.overflow_mul-j
+overflow_mul-j c =
+    let pre = c.requires in
+    omega (arith, c.loop-j-test.true, c.loop-j.invariant.high, pre.2.size)
+
+pub overflow_add-j : goal.overflow_add-j
+overflow_add-j c =
+    let pre = c.requires in
+    omega (arith, c.loop-j-test.true, c.loop-j.invariant.high, pre.2.size)
+
+pub read-h-requires : goal.read-h-requires
+read-h-requires c =
+    let pre = c.requires in
+    omega (arith, c.loop-j-test.true, c.loop-j.invariant.high, pre.2.size)
+
+pub make_missing-requires : goal.make_missing-requires
+make_missing-requires c =
+    let loop = c.loop-j in
+    (loop.invariant.works, loop.invariant.also.1)
+
+pub returns-then-not-make_missing : goal.returns-then-not-make_missing
+returns-then-not-make_missing c =
+    let args = c.args in
+    let loop = c.loop-j in
+    let loop-test = c.loop-j-test in
+    let read2 = c.read-h in
+    let make-missing = c.make_missing in
+    making_full args.message.now (table_of args.t.now) _ loop.invariant loop-test.true _ read2.ensures _
+    make-missing.ensures (sym refl ∙ c.if-not-make_missing.true)
+
+pub loop-j-preserved : goal.loop-j-preserved
+loop-j-preserved c =
+    let args = c.args in
+    let loop = c.loop-j in
+    let loop-test = c.loop-j-test in
+    let read2 = c.read-h in
+    let make-missing = c.make_missing in
+    making_turn args.message.now (table_of args.t.now) _ loop.invariant loop-test.true _ read2.ensures _
+    make-missing.ensures (sym refl ∙ c.if-not-make_missing.false)
+
+pub returns : goal.returns
+returns c =
+    let args = c.args in
+    making_end args.message.now (table_of args.t.now) _ c.loop-j.invariant
+    (λ l. omega (arith, l, c.loop-j-test.false))

@@ -1,0 +1,82 @@
+-- `merge::live::mend_all` meets its contract. The loop's invariant: the slots from i on are left, and lead to the outcome.
+-- Assumes nothing.
+use native.Mathlib.Omega.{arith}
+use mathlib.Core.Path.{refl, sym, ◌∙◌}
+use Prim.Native.Nat.{◌-◌}
+use Rattle.codec.specs.Lists.{passed, failed}
+use Rattle.table.specs.Slots.{id_at}
+use Rattle.merge.specs.Working.{made_as}
+use Rattle.merge.specs.Live.{Mending, mending_start, mending_mends, mending_id, mending_full, mending_turn, mending_end}
+use Rattle.merge.proofs.live.mend_all.Goals as goal
+
+pub replicas_used-m-requires : goal.replicas_used-m-requires
+replicas_used-m-requires c = omega (arith, c.requires.0.stands.size)
+
+pub loop-i-init : goal.loop-i-init
+loop-i-init c =
+    let args = c.args in
+    let pre = c.requires in
+    mending_start args.time args.t.now pre.4 pre.0 pre.1 pre.2 pre.3
+
+pub overflow_mul-i : goal.overflow_mul-i
+overflow_mul-i c = omega (arith, c.loop-i-test.true, c.replicas_used-m.ensures.1)
+
+pub overflow_add-i : goal.overflow_add-i
+overflow_add-i c = omega (arith, c.loop-i-test.true, c.replicas_used-m.ensures.1)
+
+pub overflow_add-i-in-loop-i : goal.overflow_add-i-in-loop-i
+overflow_add-i-in-loop-i c = omega (arith, c.loop-i-test.true, c.replicas_used-m.ensures.1)
+
+pub get_u32-id-requires : goal.get_u32-id-requires
+get_u32-id-requires c =
+    let replicas_used_law = c.replicas_used-m in
+    omega (
+      arith,
+      c.loop-i-test.true,
+      replicas_used_law.ensures.1,
+      c.loop-i.invariant.works.stands.size,
+    )
+
+pub mend-requires : goal.mend-requires
+mend-requires c =
+    let args = c.args in
+    let replicas_used_law = c.replicas_used-m in
+    let loop = c.loop-i in
+    let loop-test = c.loop-i-test in
+    mending_mends args.time args.t.now loop.i loop.invariant
+    (omega (arith, loop-test.true, replicas_used_law.ensures.0))
+
+pub returns-then-not-mend : goal.returns-then-not-mend
+returns-then-not-mend c =
+    let args = c.args in
+    let replicas_used_law = c.replicas_used-m in
+    let loop = c.loop-i in
+    let loop-test = c.loop-i-test in
+    let get-u32 = c.get_u32-id in
+    let mend = c.mend in
+    let id = get-u32.ensures ∙ sym (id_at loop.t loop.i) ∙ (mending_id args.time args.t.now loop.i
+    loop.invariant (omega (arith, loop-test.true, replicas_used_law.ensures.0))).1 in
+    mending_full args.time args.t.now loop.i loop.invariant
+    (omega (arith, loop-test.true, replicas_used_law.ensures.0)) _ id
+    (made_as (sym refl ∙ c.if-not-mend.true) mend.ensures)
+
+pub loop-i-preserved : goal.loop-i-preserved
+loop-i-preserved c =
+    let args = c.args in
+    let replicas_used_law = c.replicas_used-m in
+    let loop = c.loop-i in
+    let loop-test = c.loop-i-test in
+    let get-u32 = c.get_u32-id in
+    let mend = c.mend in
+    let id = get-u32.ensures ∙ sym (id_at loop.t loop.i) ∙ (mending_id args.time args.t.now loop.i
+    loop.invariant (omega (arith, loop-test.true, replicas_used_law.ensures.0))).1 in
+    mending_turn args.time args.t.now loop.i loop.invariant
+    (omega (arith, loop-test.true, replicas_used_law.ensures.0)) _ id
+    (made_as (sym refl ∙ c.if-not-mend.false) mend.ensures)
+
+pub returns : goal.returns
+returns c =
+    let args = c.args in
+    let loop = c.loop-i in
+    mending_end args.time args.t.now loop.i loop.invariant
+    (omega (arith, c.loop-i-test.false, c.replicas_used-m.ensures.0))

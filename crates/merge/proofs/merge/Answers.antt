@@ -1,0 +1,93 @@
+-- `merge::merge` meets its contract: one step after the other. Assumes nothing.
+use native.Mathlib.Omega.{arith}
+use mathlib.Core.Path.{refl}
+use Rattle.codec.specs.Bytes.{Bytes}
+use Rattle.codec.specs.Lists.{passed, failed}
+use Rattle.steps.specs.Standing.{never}
+use Rattle.merge.specs.Merging.{merge_works, merge_own, merge_sized, merge_long, heads_full, heads_works, heads_held, entries_full, entries_works, entries_base, entries_shown, entries_clock, merge_made, merge_grown}
+use mathlib.Core.Path.{sym, ◌∙◌}
+use Rattle.merge.proofs.merge.Goals as goal
+
+pub take_heads-requires : goal.take_heads-requires
+take_heads-requires c =
+    let pre = c.requires in
+    let slice-known = c.slice_known-1 in (
+      merge_works pre (λ n. (slice-known.given n).fits),
+      merge_own pre (λ n. (slice-known.given n).fits),
+      merge_sized pre (λ n. (slice-known.given n).fits),
+    )
+
+pub returns-then-not-take_heads : goal.returns-then-not-take_heads
+returns-then-not-take_heads c =
+    let pre = c.requires in
+    let slice-known = c.slice_known-1 in
+    let take-heads = c.take_heads in (
+      heads_full pre (λ n. (slice-known.given n).fits)
+          take-heads.ensures (sym refl ∙ c.if-not-take_heads.true),
+      λ e. never e,
+    )
+
+pub join_all-requires : goal.join_all-requires
+join_all-requires c =
+    let pre = c.requires in
+    let slice-known = c.slice_known-1 in
+    let take-heads = c.take_heads in
+    let if1 = c.if-not-take_heads in (
+      heads_works pre (λ n. (slice-known.given n).fits)
+          take-heads.ensures (sym refl ∙ if1.false),
+      merge_long pre (λ n. (slice-known.given n).fits),
+      merge_sized pre (λ n. (slice-known.given n).fits),
+      heads_held pre (λ n. (slice-known.given n).fits)
+          take-heads.ensures (sym refl ∙ if1.false),
+    )
+
+pub returns-then-not-join_all : goal.returns-then-not-join_all
+returns-then-not-join_all c =
+    let pre = c.requires in
+    let slice-known = c.slice_known-1 in
+    let take-heads = c.take_heads in
+    let if1 = c.if-not-take_heads in
+    let join_all_law = c.join_all in (
+      entries_full pre (λ n. (slice-known.given n).fits)
+          take-heads.ensures (sym refl ∙ if1.false)
+          join_all_law.ensures (sym refl ∙ c.if-not-join_all.true),
+      λ e. never e,
+    )
+
+pub mend_all-requires : goal.mend_all-requires
+mend_all-requires c =
+    let args = c.args in
+    let pre = c.requires in
+    let slice-known = c.slice_known-1 in
+    let take-heads = c.take_heads in
+    let if1 = c.if-not-take_heads in
+    let join_all_law = c.join_all in
+    let if2 = c.if-not-join_all in
+    let a : Bytes args.t.now = (λ n. (slice-known.given n).fits) in (
+      entries_works pre a take-heads.ensures (sym refl ∙ if1.false)
+          join_all_law.ensures (sym refl ∙ if2.false),
+      entries_base pre a take-heads.ensures (sym refl ∙ if1.false)
+          join_all_law.ensures (sym refl ∙ if2.false),
+      entries_shown pre a take-heads.ensures (sym refl ∙ if1.false)
+          join_all_law.ensures (sym refl ∙ if2.false),
+      entries_clock pre a take-heads.ensures (sym refl ∙ if1.false)
+          join_all_law.ensures (sym refl ∙ if2.false),
+      omega (arith, pre.early),
+    )
+
+pub returns : goal.returns
+returns c =
+    let args = c.args in
+    let pre = c.requires in
+    let slice-known = c.slice_known-1 in
+    let take-heads = c.take_heads in
+    let if1 = c.if-not-take_heads in
+    let join_all_law = c.join_all in
+    let if2 = c.if-not-join_all in
+    let mend-all = c.mend_all in
+    let a : Bytes args.t.now = (λ n. (slice-known.given n).fits) in (
+      merge_made pre a take-heads.ensures (sym refl ∙ if1.false)
+          join_all_law.ensures (sym refl ∙ if2.false) mend-all.ensures,
+      merge_grown pre a take-heads.ensures (sym refl ∙ if1.false)
+          join_all_law.ensures (sym refl ∙ if2.false) mend-all.ensures,
+    )

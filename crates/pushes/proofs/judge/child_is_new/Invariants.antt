@@ -1,0 +1,27 @@
+-- `pushes::judge::child_is_new` meets its contract. The loop's invariant: child and name are new exactly if no entry
+-- from j
+-- on has them. Assumes nothing.
+use mathlib.Core.Path.{◌≡◌, refl, ap, sym, ◌∙◌}
+use mathlib.Core.Bool.{Bool, not}
+use mathlib.Core.List.{List}
+use Prim.Native.Nat.{ℕ, ◌-◌, ◌≤◌}
+use native.Mathlib.Nat.{sub-zero}
+use native.Mathlib.Omega.{arith}
+use borrow.Author.Rules.{rules}
+use Rattle.codec.specs.Lists.{and_stop, and_go}
+use Rattle.document.specs.Tables.{every_slot}
+use Rattle.document.specs.Messages.{same_child_name}
+use Rattle.table.specs.Slots.{slots_step, slots_none}
+use Rattle.pushes.specs.Judging.{entry_in, child_new, is_same_law}
+use Rattle.pushes.proofs.judge.child_is_new.Given as goal
+
+-- entry j has another child or name than entry i
+abbrev pub other : List ℕ → ℕ → ℕ → ℕ → Bool
+other m k i j = not (same_child_name (entry_in k m j) (entry_in k m i))
+
+abbrev pub invariant-loop-j : goal.invariant-loop-j
+invariant-loop-j l =
+    (l.j ≤ l.i) × (l.e ≡ entry_in l.k l.m l.i) × (l.name ≡ l.e.name) × (child_new l.k l.m l.i ≡ every_slot (other l.m l.k l.i) l.j (l.i - l.j))
+
+abbrev pub decreases-loop-j : goal.decreases-loop-j
+decreases-loop-j l = l.i - l.j

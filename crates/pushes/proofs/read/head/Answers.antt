@@ -1,0 +1,19 @@
+-- `pushes::read::head` meets its contract: a head in its own bytes is the one that stands there. Assumes nothing.
+use mathlib.Core.Path.{ap, ◌∙◌}
+use native.Mathlib.Omega.{arith}
+use lib.ListN.{length}
+use Rattle.codec.specs.Laws.{length_chunk}
+use Rattle.records.specs.Heads.{head_of}
+use Rattle.document.specs.Messages.{head_spot}
+use Rattle.pushes.specs.Judging.{in_part}
+use Rattle.pushes.proofs.read.head.Goals as goal
+
+pub read-requires : goal.read-requires
+read-requires c =
+    let a = c.args in
+    omega (arith, ap length c.bytes_at.ensures, length_chunk a.m.now (head_spot a.i) 40 (omega arith))
+
+pub returns : goal.returns
+returns c =
+    let a = c.args in
+    c.read.ensures ∙ in_part head_of a.m.now _ (head_spot a.i) 40 c.bytes_at.ensures

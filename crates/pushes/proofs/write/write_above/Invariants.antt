@@ -1,0 +1,32 @@
+-- `pushes::write::write_above` meets its contract. The loop's invariant: what was written, with the heads from d on up
+-- behind it, is what is to be written. Assumes nothing.
+use mathlib.Core.Path.{◌≡◌, refl, ap, sym, ◌∙◌}
+use mathlib.Core.List.{List, [], ◌∷◌}
+use Prim.Native.Nat.{ℕ, ◌+◌, ◌*◌, ◌-◌, ◌≤◌, ◌<◌}
+use native.Mathlib.Nat.{sub-zero}
+use native.Mathlib.Omega.{arith}
+use lib.ListN.{length}
+use Rattle.codec.specs.Bytes.{splice}
+use Rattle.records.specs.declared.head.Head.{Head}
+use Rattle.records.specs.Heads.{head_bytes, head_at}
+use Rattle.document.specs.Tables.{replica_slot, rows, table_of}
+use Rattle.document.specs.Messages.{chain_up}
+use Rattle.document.specs.Rows.{rows_end}
+use Rattle.views.specs.Chains.{chain_root, chain_gone, chain_up_law, chain_end}
+use Rattle.table.specs.Rules.{found_head, not_found}
+use Rattle.pushes.specs.Writing.{head_written}
+use Rattle.pushes.proofs.write.write_above.Given as goal
+
+-- the heads that are left
+abbrev pub left : List ℕ → ℕ → ℕ → ℕ → List Head
+left t most d i = chain_up (most - i) d (table_of t)
+
+abbrev pub invariant-loop-i : goal.invariant-loop-i
+invariant-loop-i l =
+    (l.i ≤ l.most) × (length l.out ≡ length l.initial.out)
+    × (l.i + length (left l.t l.most l.d l.i) ≡ length (chain_up l.most l.directory (table_of l.t)))
+    × (splice l.out (56 + 40 * l.i) (rows head_bytes (left l.t l.most l.d l.i))
+    ≡ splice l.initial.out 56 (rows head_bytes (chain_up l.most l.directory (table_of l.t))))
+
+abbrev pub decreases-loop-i : goal.decreases-loop-i
+decreases-loop-i l = l.most - l.i

@@ -1,0 +1,25 @@
+-- `pushes::write::write_entries` meets its contract. The loop's invariant: what was written, with the entries of the
+-- slots
+-- from i on behind it, is what is to be written. Assumes nothing.
+use mathlib.Core.Path.{◌≡◌, refl, ap, sym, ◌∙◌}
+use mathlib.Core.List.{List}
+use Prim.Native.Nat.{ℕ, ◌+◌, ◌*◌, ◌-◌, ◌≤◌}
+use native.Mathlib.Omega.{arith}
+use lib.ListN.{length, length-append}
+use Rattle.codec.specs.Bytes.{splice}
+use Rattle.records.specs.declared.entry.Entry.{Entry}
+use Rattle.records.specs.Entries.{entry_bytes, length_entry_bytes}
+use Rattle.document.specs.Tables.{rows}
+use Rattle.document.specs.Rows.{rows_written, rows_end}
+use Rattle.pushes.specs.Writing.{listed_at, listed_from, listed_step, listed_end, listed_all}
+use Rattle.pushes.proofs.write.write_entries.Given as goal
+
+abbrev pub invariant-loop-i : goal.invariant-loop-i
+invariant-loop-i l =
+    (l.i ≤ l.k) × (length l.out ≡ length l.initial.out)
+    × (l.at + 32 * length (listed_from l.t l.directory l.k l.i) ≡ l.o + 32 * length (listed_from l.t l.directory l.k 0))
+    × (splice l.out l.at (rows entry_bytes (listed_from l.t l.directory l.k l.i))
+    ≡ splice l.initial.out l.o (rows entry_bytes (listed_from l.t l.directory l.k 0)))
+
+abbrev pub decreases-loop-i : goal.decreases-loop-i
+decreases-loop-i l = l.k - l.i

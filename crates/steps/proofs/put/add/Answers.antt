@@ -1,0 +1,31 @@
+-- `steps::put::add` meets its contract. Assumes nothing.
+use borrow.Author.Rules.{rules}
+use native.Mathlib.Omega.{arith}
+use Rattle.records.specs.Heads.{HeadFit}
+use Rattle.document.specs.Reading.{few_replicas}
+use Rattle.steps.specs.Standing.{moved, never}
+use Rattle.steps.specs.Putting.{put_full, put_next}
+use Rattle.steps.proofs.put.add.Goals as goal
+
+pub returns-then-m-eq64 : goal.returns-then-m-eq64
+returns-then-m-eq64 c =
+    let k = c.requires in
+    let f : HeadFit c.args.h = record { id = search rules; stamp = search rules; directory = search rules; bytes = search rules } in
+    (put_full k.stands (λ n. (c.slice_known-1.given n).fits) c.args.h f c.args.m k.used k.absent c.if-m-eq64.true, λ e. never e)
+
+pub overflow_mul-m : goal.overflow_mul-m
+overflow_mul-m c = omega (arith, c.requires.used, few_replicas c.args.t.now)
+
+pub overflow_add-m : goal.overflow_add-m
+overflow_add-m c = omega (arith, c.requires.used, few_replicas c.args.t.now)
+
+pub write-requires : goal.write-requires
+write-requires c = omega (arith, c.requires.used, c.requires.stands.size, few_replicas c.args.t.now)
+
+pub returns : goal.returns
+returns c =
+    let k = c.requires in
+    let f : HeadFit c.args.h = record { id = search rules; stamp = search rules; directory = search rules; bytes = search rules } in
+    let few = few_replicas c.args.t.now in
+    let p = put_next k.stands (λ n. (c.slice_known-1.given n).fits) c.args.h f c.args.m k.used k.absent (omega (arith, k.used)) in
+    (p.0, λ _. moved p.1 c.write.ensures)

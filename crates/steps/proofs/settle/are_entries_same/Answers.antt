@@ -1,0 +1,28 @@
+-- `steps::settle::are_entries_same` meets its contract. The loop's invariant: all are exactly if those from i on are.
+-- Assumes nothing.
+use native.Mathlib.Omega.{arith}
+use mathlib.Core.Path.{◌≡◌, refl, sym, ◌∙◌}
+use Prim.Native.Nat.{◌-◌, ◌≤◌}
+use native.Mathlib.Nat.{sub-zero}
+use Rattle.codec.specs.Lists.{and_stop, and_go, passed, failed}
+use Rattle.document.specs.Tables.{every_slot}
+use Rattle.table.specs.Slots.{slots_step, slots_none}
+use Rattle.steps.specs.Settling.{is_slot_same}
+use borrow.Author.Rules.{rules}
+use Rattle.steps.proofs.settle.are_entries_same.Goals as goal
+
+pub loop-i-init : goal.loop-i-init
+loop-i-init c = (search rules, simp sub-zero)
+
+pub returns-then-not-is_slot_same : goal.returns-then-not-is_slot_same
+returns-then-not-is_slot_same c =
+    let l = c.loop-i in
+    and_stop _ _ (sym c.is_slot_same.ensures ∙ c.if-not-is_slot_same.true) ∙ sym (l.invariant.1 ∙ slots_step _ _ _ c.loop-i-test.true)
+
+pub loop-i-preserved : goal.loop-i-preserved
+loop-i-preserved c =
+    let l = c.loop-i in
+    (omega arith, l.invariant.1 ∙ slots_step _ _ _ c.loop-i-test.true ∙ sym (and_go _ _ (sym c.is_slot_same.ensures ∙ c.if-not-is_slot_same.false) refl))
+
+pub returns : goal.returns
+returns c = sym (c.loop-i.invariant.1 ∙ slots_none _ _ _ c.loop-i-test.false)
