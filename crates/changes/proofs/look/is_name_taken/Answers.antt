@@ -1,0 +1,26 @@
+-- `changes::look::is_name_taken` meets its contract. The loop's invariant: one passes exactly if one from i on does. Assumes nothing.
+use native.Mathlib.Omega.{arith}
+use mathlib.Core.Path.{◌≡◌, refl, sym, ◌∙◌}
+use Prim.Native.Nat.{ℕ, ◌-◌, ◌≤◌}
+use Rattle.codec.specs.Lists.{or_stop, or_go}
+use Rattle.document.specs.Tables.{table_of, entry_in}
+use Rattle.document.specs.Calls.{name_taken}
+use Rattle.changes.specs.Looking.{any_slot, any_step, any_none, is_taken_by, taken_any}
+use borrow.Author.Rules.{rules}
+use Rattle.document.specs.Reading.{few_entries}
+use Rattle.changes.proofs.look.is_name_taken.Goals as goal
+
+pub loop-i-init : goal.loop-i-init
+loop-i-init c = (search rules, taken_any c.args.t.now c.args.k c.args.directory c.args.name c.requires.1)
+
+pub takes_name-requires : goal.takes_name-requires
+takes_name-requires c = (c.requires.0, omega (arith, c.loop-i-test.true, c.requires.1, few_entries c.args.t.now))
+
+pub returns-then-takes_name : goal.returns-then-takes_name
+returns-then-takes_name c = or_stop _ _ (sym c.takes_name.ensures ∙ c.if-takes_name.true) ∙ sym (c.loop-i.invariant.1 ∙ any_step _ _ _ c.loop-i-test.true)
+
+pub loop-i-preserved : goal.loop-i-preserved
+loop-i-preserved c = (omega arith, c.loop-i.invariant.1 ∙ any_step _ _ _ c.loop-i-test.true ∙ sym (or_go _ _ (sym c.takes_name.ensures ∙ c.if-takes_name.false) refl))
+
+pub returns : goal.returns
+returns c = sym (c.loop-i.invariant.1 ∙ any_none _ _ _ c.loop-i-test.false)
