@@ -4,7 +4,6 @@
 #![tactic(auto)]
 
 pub mod acknowledged;
-pub mod exports;
 pub mod list;
 pub mod pending;
 pub mod push;

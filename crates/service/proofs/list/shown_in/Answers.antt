@@ -1,0 +1,39 @@
+-- `service::list::shown_in` meets its contract. The loop's invariant: of the first i slots n are shown.
+-- Assumes nothing.
+use mathlib.Core.Path.{◌≡◌, ap, sym, ◌∙◌}
+use Prim.Native.Nat.{ℕ, ◌-◌, ◌≤◌}
+use native.Mathlib.Omega.{arith}
+use borrow.Author.Rules.{rules}
+use mathlib.Core.Logic.{⊎_elim}
+use lib.ListN.{length}
+use Rattle.service.specs.Listing.{shown_in, shown_none, length_more, not_shown, is_shown_law}
+use Prim.Native.Nat.{◌-◌, ◌≤◌}
+use Rattle.service.proofs.list.shown_in.Goals as goal
+use Rattle.service.proofs.list.shown_in.Goals.{then-shows, else-shows}
+
+pub loop-i-init : goal.loop-i-init
+loop-i-init c =
+    let a = c.args in
+    (search rules, search rules, sym (ap length (shown_none a.t.now a.directory)))
+
+pub loop-i-preserved : goal.loop-i-preserved
+loop-i-preserved c =
+    let a = c.args in
+    let l = c.loop-i in
+    let more = length_more a.t.now a.directory l.i in
+    let shown = c.shows.ensures in
+    elim c.if-shows.branch [
+      | then-shows w ↦
+          let here = ap length (is_shown_law a.t.now a.directory l.i (sym shown ∙ w.if-shows.true)) in
+          (omega arith, omega arith, omega (arith, l.invariant.2))
+      | else-shows w ↦
+          let other = ap length (not_shown a.t.now a.directory l.i (sym shown ∙ w.if-shows.false)) in
+          (omega arith, omega arith, omega (arith, l.invariant.2))
+    ]
+
+pub returns : goal.returns
+returns c =
+    let l = c.loop-i in
+    let a = c.args in
+    let all : l.i ≡ a.k = omega arith in
+    (l.invariant.2 ∙ ap (λ (i : ℕ). length (shown_in a.t.now a.directory i)) all, omega arith)

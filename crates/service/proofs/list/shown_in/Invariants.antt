@@ -1,0 +1,17 @@
+-- `service::list::shown_in` meets its contract. The loop's invariant: of the first i slots n are shown.
+-- Assumes nothing.
+use mathlib.Core.Path.{◌≡◌, ap, sym, ◌∙◌}
+use Prim.Native.Nat.{ℕ, ◌-◌, ◌≤◌}
+use native.Mathlib.Omega.{arith}
+use borrow.Author.Rules.{rules}
+use mathlib.Core.Logic.{⊎_elim}
+use lib.ListN.{length}
+use Rattle.service.specs.Listing.{shown_in, shown_none, length_more, not_shown, is_shown_law}
+use Prim.Native.Nat.{◌-◌, ◌≤◌}
+use Rattle.service.proofs.list.shown_in.Given as goal
+
+abbrev pub invariant-loop-i : goal.invariant-loop-i
+invariant-loop-i l = (l.i ≤ l.k) × (l.n ≤ l.i) × (l.n ≡ length (shown_in l.t l.directory l.i))
+
+abbrev pub decreases-loop-i : goal.decreases-loop-i
+decreases-loop-i l = l.k - l.i

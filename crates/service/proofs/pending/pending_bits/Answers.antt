@@ -1,0 +1,30 @@
+-- `service::pending::pending_bits` meets its contract. The loop's invariant: n, and those from i on; n is at most 8 for
+-- each slot passed. Assumes nothing.
+use mathlib.Core.Path.{◌≡◌, ap, sym, ◌∙◌}
+use Prim.Native.Nat.{◌+◌, ◌*◌, ◌-◌, ◌≤◌}
+use native.Mathlib.Omega.{arith}
+use native.Mathlib.Nat.{sub-zero}
+use borrow.Author.Rules.{rules}
+use Rattle.numbers.specs.Nodes.{size}
+use Rattle.document.specs.Tables.{slots_from, replica_in}
+use Rattle.document.specs.Calls.{pending_sum}
+use Rattle.service.specs.Pending.{sum_step, sum_none, pending_at, members_most}
+use Rattle.service.proofs.pending.pending_bits.Goals as goal
+
+pub loop-i-init : goal.loop-i-init
+loop-i-init c = (search rules, search rules, simp sub-zero (omega arith))
+
+pub loop-i-preserved : goal.loop-i-preserved
+loop-i-preserved c =
+    let l = c.loop-i in
+    let g = replica_in c.args.t.now in
+    let step = sum_step g c.args.m l.i c.loop-i-test.true in
+    let bits : c.size.result ≡ size (g l.i).pending =
+    c.size.ensures ∙ ap size (c.get_u8.ensures ∙ sym (pending_at c.args.t.now l.i)) in
+    let most = members_most 8 (g l.i).pending in
+    (omega arith, omega (arith, l.invariant.1), omega (arith, l.invariant.2))
+
+pub returns : goal.returns
+returns c =
+    let l = c.loop-i in
+    omega (arith, l.invariant.2, sum_none (replica_in c.args.t.now) _ _ c.loop-i-test.false)

@@ -1,0 +1,19 @@
+-- `service::pending::pending_bits` meets its contract. The loop's invariant: n, and those from i on; n is at most 8 for
+-- each slot passed. Assumes nothing.
+use mathlib.Core.Path.{◌≡◌, ap, sym, ◌∙◌}
+use Prim.Native.Nat.{◌+◌, ◌*◌, ◌-◌, ◌≤◌}
+use native.Mathlib.Omega.{arith}
+use native.Mathlib.Nat.{sub-zero}
+use borrow.Author.Rules.{rules}
+use Rattle.numbers.specs.Nodes.{size}
+use Rattle.document.specs.Tables.{slots_from, replica_in}
+use Rattle.document.specs.Calls.{pending_sum}
+use Rattle.service.specs.Pending.{sum_step, sum_none, pending_at, members_most}
+use Rattle.service.proofs.pending.pending_bits.Given as goal
+
+abbrev pub invariant-loop-i : goal.invariant-loop-i
+invariant-loop-i l =
+    (l.i ≤ l.m) × (l.n ≤ 8 * l.i) × (pending_sum (slots_from (replica_in l.t) 0 l.m) ≡ l.n + pending_sum (slots_from (replica_in l.t) l.i (l.m - l.i)))
+
+abbrev pub decreases-loop-i : goal.decreases-loop-i
+decreases-loop-i l = l.m - l.i

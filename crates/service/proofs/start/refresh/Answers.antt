@@ -1,0 +1,13 @@
+-- `service::start::refresh` meets its contract: the header and the root's slot, written over zeros, are the fresh
+-- table's bytes. Assumes nothing.
+use mathlib.Core.Path.{◌∙◌}
+use Rattle.codec.specs.Laws.{after}
+use Rattle.service.specs.Starting.{fresh_bytes}
+use Rattle.service.proofs.start.refresh.Goals as goal
+
+pub returns : goal.returns
+returns c =
+    let root = c.root in
+    after _ _ c.write-2.ensures
+    (after _ _ c.write.ensures c.erase.ensures)
+    ∙ fresh_bytes c.args.t.now c.args.node c.args.n root.result c.requires.0 root.ensures

@@ -1,0 +1,15 @@
+-- `service::tree::rename` meets its contract. Assumes nothing.
+use mathlib.Core.Path.{sym}
+use Rattle.codec.specs.Lists.{passed, failed}
+use Rattle.answers.specs.Answers.{not_sound, is_sound, refuses, instead}
+use mathlib.Core.Path.{◌∙◌}
+use Rattle.service.proofs.tree.rename.Goals as goal
+
+pub returns-then-not-is_sound : goal.returns-then-not-is_sound
+returns-then-not-is_sound c = refuses _ (not_sound c.args.table.now _ (sym c.is_sound.ensures ∙ c.if-not-is_sound.true))
+
+pub rename-requires : goal.rename-requires
+rename-requires c = (sym c.is_sound.ensures ∙ c.if-not-is_sound.false)
+
+pub returns : goal.returns
+returns c = instead _ (sym (is_sound c.args.table.now _ (sym c.is_sound.ensures ∙ c.if-not-is_sound.false))) c.rename.ensures
