@@ -1,5 +1,5 @@
--- The examples P1 to P12 of document 01 as one table: each row has what the definitions give and what the document says,
--- and one theorem says that every row agrees. Every example goes through the calls, or the steps, that it is about.
+-- The examples P1 to P12 of document 01 as one table: each row has what the definitions give and what the document says.
+-- Every example goes through the calls, or the steps, that it is about. `proofs/Examples` has that every row agrees.
 -- Assumes nothing.
 use Rattle.std.specs.Prelude.{◌≡◌, refl, Bool, true, ℕ, zero, suc, ◌+◌, length}
 use Rattle.std.proofs.Math.Option.{Option, some, none}
@@ -39,81 +39,81 @@ agrees r = same_bytes r.got r.want
 -- ---- what is read off a call
 
 -- the table that it leaves; of a refused one a table for no node, with which no row below agrees
-unfoldable left : Outcome → Table
+unfoldable pub left : Outcome → Table
 left (refused k) = fresh 0 0
 left (done v t w) = t
 
-unfoldable wrote : Outcome → List ℕ
+unfoldable pub wrote : Outcome → List ℕ
 wrote (refused k) = []
 wrote (done v t w) = w
 
 -- number, value and how many bytes are written
-unfoldable answer : Outcome → List ℕ
+unfoldable pub answer : Outcome → List ℕ
 answer o = number_of o ∷ value_of o ∷ length (wrote o) ∷ []
 
 -- a part of a replica, if it is held
-unfoldable seen : (Replica → List ℕ) → Option Replica → List ℕ
+unfoldable pub seen : (Replica → List ℕ) → Option Replica → List ℕ
 seen f none = []
 seen f (some r) = f r
 
-unfoldable part_of : (Replica → List ℕ) → ℕ → Table → List ℕ
+unfoldable pub part_of : (Replica → List ℕ) → ℕ → Table → List ℕ
 part_of f id t = seen f (find id t.replicas)
 
-unfoldable holders : Replica → List ℕ
+unfoldable pub holders : Replica → List ℕ
 holders r = r.head.holders ∷ []
 
-unfoldable holders_pending : Replica → List ℕ
+unfoldable pub holders_pending : Replica → List ℕ
 holders_pending r = r.head.holders ∷ r.pending ∷ []
 
 -- ---- P1 to P4: a file "a" is made in the root, for nodes 1 and 2
 
-unfoldable makes : ℕ → Table → Outcome
+unfoldable pub makes : ℕ → Table → Outcome
 makes now t = create_in now 0 1 (97 ∷ []) 3 t
 
 -- the stamp of what was made, and of its entry
-unfoldable stamps : Outcome → List ℕ
+unfoldable pub stamps : Outcome → List ℕ
 stamps o =
     part_of (λ (r : Replica). r.head.stamp ∷ []) (value_of o) (left o)
     ++ map (λ (x : Listed). x.entry.stamp) (left o).entries
 
 -- ---- P2 and P8: two entries for one child and name are joined, either order
 
-unfoldable entry_with : ℕ → ℕ → Listed
+unfoldable pub entry_with : ℕ → ℕ → Listed
 entry_with live stamp =
     record { entry = record { live = live; child = id_of 1 1; stamp = stamp; name = name_from (97 ∷ []) }; directory = 0 }
 
-unfoldable flags : List Listed → List ℕ
+unfoldable pub flags : List Listed → List ℕ
 flags [] = []
 flags (x ∷ xs) = x.entry.live ∷ x.entry.stamp ∷ flags xs
 
-unfoldable either_order : Listed → Listed → List ℕ
+unfoldable pub either_order : Listed → Listed → List ℕ
 either_order a b = flags (join_into b (join_into a [])) ++ flags (join_into a (join_into b []))
 
 -- ---- P5: k directories, each in the one before, and a file in the last; k files in the root
 
-unfoldable lowest : ℕ → ℕ
+unfoldable pub lowest : ℕ → ℕ
 lowest zero = 0
 lowest (suc k) = id_of 1 (suc k)
 
-unfoldable nested : ℕ → Table
+unfoldable pub nested : ℕ → Table
 nested zero = fresh 1 2
 nested (suc k) = left (create_in 1 (lowest k) 2 (97 ∷ []) 3 (nested k))
 
-unfoldable file_below : ℕ → Table
+unfoldable pub file_below : ℕ → Table
 file_below k = left (create_in 1 (lowest k) 1 (97 ∷ []) 3 (nested k))
 
-unfoldable filled : ℕ → Table
+unfoldable pub filled : ℕ → Table
 filled zero = fresh 1 2
 filled (suc k) = left (create_in 1 0 1 ((65 + k) ∷ []) 3 (filled k))
 
 -- depth and entries, and what comes back of the push to node 2
-unfoldable pushed : ℕ → Table → List ℕ
+unfoldable pub pushed : ℕ → Table → List ℕ
 pushed id t =
     part_of (λ (r : Replica). r.head.depth ∷ length (entries_of id t.entries) ∷ []) id t ++ answer (push_in id 2 1640 t)
 
 -- ---- P9 and P10: node 1 is told of a file "a" in the root, or of the root
 
-unfoldable file : ℕ → ℕ → ℕ → ℕ → Head
+unfoldable pub file : ℕ → ℕ → ℕ → ℕ → Head
 file id live stamp holders =
     record {
       kind = 1;
@@ -126,27 +126,27 @@ file id live stamp holders =
       name = name_from (97 ∷ []);
     }
 
-unfoldable tells : ℕ → Head → List Entry → List ℕ
+unfoldable pub tells : ℕ → Head → List Entry → List ℕ
 tells node h entries =
     message_bytes (record { sender = node; addressee = 1; version = 2; first = h; above = []; entries = entries })
 
 -- node 2 makes the file at 12, so with the stamp 3074, and node 1 receives it
-unfoldable known : Table
+unfoldable pub known : Table
 known = left (receive_in 12 (wrote (push_in (id_of 2 1) 1 1640 (left (makes 12 (fresh 2 2))))) 16 (fresh 1 2))
 
 -- node 1 of three makes it at 12: stamp 3073, holders 03
-unfoldable held : Table
+unfoldable pub held : Table
 held = left (makes 12 (fresh 1 3))
 
 -- ---- P11: node 2 acknowledges a version of the root
 
-unfoldable acknowledges : ℕ → Table → Outcome
+unfoldable pub acknowledges : ℕ → Table → Outcome
 acknowledges version t =
     if_ack (read_ack 2 (ack_bytes (record { sender = 2; addressee = 1; version = version; id = 0 }))) (clear_in t)
 
 -- ---- the table
 
-pub examples : List Row
+unfoldable pub examples : List Row
 examples =
     -- "P1 clock 12: node 1 gives 3073, node 2 gives 3074."
     gives (stamps (makes 12 (fresh 1 2))) (3073 ∷ 3073 ∷ [])
@@ -193,13 +193,3 @@ examples =
     -- "P12 fresh, N 3: root holders 07."
     ∷ gives (part_of holders 0 (left (start (zeros 13344) 1 3))) (7 ∷ [])
     ∷ []
-
-pub every_row : every agrees examples ≡ true
-unfolding examples agrees left wrote answer seen part_of holders holders_pending makes stamps entry_with flags either_order lowest nested file_below filled pushed file tells known held acknowledges chunk le bytes_of same_bytes every same_name is_text is_name name_from has single join without is_made is_id is_stamp is_version head_bytes head_of head_in_range head_fits is_root is_ordinary entry_bytes entry_of entry_in_range entry_fits ack_bytes ack_of ack_in_range ack_fits push_bytes push_of push_in_range push_fits fresh first entries_of rows slots_from every_slot distinct join_into put_head set_by join_all odd_all issue same_entries settle_all settle relive make_live too_many past_end message_bytes message_of message_in_range chained hangs_together read_push read_ack chain_up push_from highest step_a step_b step_c set_above step_f taken received odd judged name_taken created create_in spread_to spread_in push_in take_in receive_in clear clear_in start
-every_row = refl
-
--- ---- so in each row the definitions give what the document says
-
-pub row_holds : {r : Row} → Memᴰ r examples → r.got ≡ r.want
-unfolding agrees
-row_holds {r} m = same_eq r.got r.want (every_member agrees m every_row)

@@ -1,14 +1,10 @@
 -- `codec::all_are` meets its contract. The loop's invariant: all are v exactly if those from i on are.
 -- Assumes nothing.
 use Prim.Native.Nat.{◌-◌, ◌≤◌}
-use mathlib.Core.Path.{◌≡◌, refl, sym, ◌∙◌}
-use native.Mathlib.Omega.{arith}
+use mathlib.Core.Path.{◌≡◌}
 use lib.ListN.{length, drop}
-use borrow.Author.Tests.{eq-eqb, ne_eqb}
-use borrow.Author.Rules.{rules}
 use Rattle.codec.specs.Bytes.{all_are}
-use Rattle.codec.specs.Lists.{every_step, every_none}
-use mathlib.Core.Path.{◌≡◌, refl, ◌∙◌}
+use mathlib.Core.Path.{◌≡◌}
 use Rattle.codec.proofs.all_are.Given as goal
 
 abbrev pub invariant-loop-i : goal.invariant-loop-i

@@ -1,7 +1,6 @@
 -- `codec::get_u32` meets its contract: the sum is the number that the four bytes are. Assumes nothing.
 use native.Mathlib.Omega.{arith}
 use Rattle.codec.specs.Laws.{u32_bytes}
-use borrow.Author.Rules.{rules}
 use Rattle.codec.proofs.get_u32.Goals as goal
 
 pub returns : goal.returns

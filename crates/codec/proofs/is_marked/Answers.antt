@@ -2,7 +2,6 @@
 use mathlib.Core.Path.{ap, ◌∙◌}
 use mathlib.Core.List.{List}
 use Prim.Native.Nat.{ℕ}
-use borrow.Author.Rules.{rules}
 use Rattle.codec.specs.Bytes.{same_bytes}
 use Rattle.codec.proofs.is_marked.Goals as goal
 

@@ -3,7 +3,6 @@ use mathlib.Core.Path.{ap, sym, ◌∙◌}
 use native.Mathlib.Omega.{arith}
 use Rattle.codec.specs.Bytes.{all_are}
 use Rattle.codec.specs.Laws.{chunk_rest}
-use borrow.Author.Rules.{rules}
 use Rattle.codec.proofs.is_zero.Goals as goal
 
 pub overflow_sub-s : goal.overflow_sub-s

@@ -4,7 +4,6 @@ use Rattle.codec.specs.Bytes.{chunk}
 use mathlib.Core.Path.{ap}
 use Prim.Native.Nat.{ℕ, ◌+◌, ◌-◌}
 use lib.ListN.{take, drop}
-use borrow.Author.Rules.{rules}
 use Rattle.codec.proofs.part.Goals as goal
 
 pub returns : goal.returns

@@ -1,11 +1,8 @@
 -- `codec::past_zeros` meets its contract. The loop's invariant: all are zero exactly if those from i on are.
 -- Assumes nothing.
-use Prim.Native.Nat.{◌-◌, ◌≤◌}
-use mathlib.Core.Path.{◌≡◌, refl, sym, ◌∙◌}
+use mathlib.Core.Path.{refl, sym, ◌∙◌}
 use native.Mathlib.Omega.{arith}
-use lib.ListN.{length, drop}
 use borrow.Author.Rules.{rules}
-use Rattle.codec.specs.Bytes.{all_are}
 use Rattle.codec.specs.Laws.{zeros_skipped}
 use Rattle.codec.proofs.past_zeros.Goals as goal
 

@@ -1,12 +1,9 @@
 -- `codec::past_zeros` meets its contract. The loop's invariant: all are zero exactly if those from i on are.
 -- Assumes nothing.
 use Prim.Native.Nat.{◌-◌, ◌≤◌}
-use mathlib.Core.Path.{◌≡◌, refl, sym, ◌∙◌}
-use native.Mathlib.Omega.{arith}
+use mathlib.Core.Path.{◌≡◌}
 use lib.ListN.{length, drop}
-use borrow.Author.Rules.{rules}
 use Rattle.codec.specs.Bytes.{all_are}
-use Rattle.codec.specs.Laws.{zeros_skipped}
 use Rattle.codec.proofs.past_zeros.Given as goal
 
 abbrev pub invariant-loop-i : goal.invariant-loop-i

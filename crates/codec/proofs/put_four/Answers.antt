@@ -2,7 +2,6 @@
 use native.Mathlib.Omega.{arith}
 use lib.ListN.{length-set}
 use Rattle.codec.specs.Laws.{stores_at}
-use borrow.Author.Rules.{rules}
 use Rattle.codec.proofs.put_four.Goals as goal
 
 pub bounds-t-o-2 : goal.bounds-t-o-2

@@ -1,6 +1,5 @@
 -- `codec::put_u64` meets its contract: two halves side by side are the whole. Assumes nothing.
 use Rattle.codec.specs.Laws.{u64_put}
-use borrow.Author.Rules.{rules}
 use Rattle.codec.proofs.put_u64.Goals as goal
 
 pub returns : goal.returns

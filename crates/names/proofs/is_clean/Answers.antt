@@ -1,12 +1,9 @@
 -- `names::is_clean` meets its contract. The loop's invariant: all are clean exactly if those from i on are.
 -- Assumes nothing.
-use Prim.Native.Nat.{◌-◌, ◌≤◌}
-use mathlib.Core.Path.{◌≡◌, refl, sym, ◌∙◌}
+use mathlib.Core.Path.{refl, sym, ◌∙◌}
 use native.Mathlib.Omega.{arith}
-use lib.ListN.{length, drop}
 use borrow.Author.Tests.{eq-eqb, ne_eqb}
 use borrow.Author.Rules.{rules}
-use Rattle.names.specs.Names.{clean}
 use Rattle.codec.specs.Lists.{every_step, every_none}
 use Rattle.names.proofs.is_clean.Goals as goal
 

@@ -1,7 +1,6 @@
 -- `names::is_text` meets its contract: its tests, in the order of the definition. Assumes nothing.
-use borrow.Author.Tests.{lt-leb, le-leb, not-true, not-false}
+use borrow.Author.Tests.{lt-leb, le-leb}
 use Rattle.names.specs.Names.{is_text}
-use borrow.Author.Rules.{rules}
 use Rattle.names.proofs.is_text.Goals as goal
 
 pub returns-then-s-lt1 : goal.returns-then-s-lt1

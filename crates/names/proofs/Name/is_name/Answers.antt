@@ -2,7 +2,7 @@
 use native.Mathlib.Omega.{arith}
 use mathlib.Core.Path.{◌≡◌, ap, sym, ◌∙◌}
 use lib.ListN.{length}
-use borrow.Author.Tests.{lt-leb, not-true, not-false}
+use borrow.Author.Tests.{lt-leb}
 use Rattle.codec.specs.Bytes.{all_are}
 use Rattle.codec.specs.Lists.{and_stop, and_go}
 use Rattle.names.specs.Names.{is_text, is_name, name_parts}

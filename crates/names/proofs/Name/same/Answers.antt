@@ -1,7 +1,6 @@
 -- `names::Name::same` meets its contract: the lengths, then the bytes. Assumes nothing.
 use borrow.Author.Tests.{eq-eqb, ne_eqb}
 use Rattle.names.specs.Names.{same_name}
-use borrow.Author.Rules.{rules}
 use Rattle.names.proofs.Name.same.Goals as goal
 
 pub returns-then-self-other : goal.returns-then-self-other

@@ -1,7 +1,6 @@
 -- `numbers::ids::is_id` meets its contract: the root, or one that was made. Assumes nothing.
 use borrow.Author.Tests.{eq-eqb, ne_eqb}
 use Rattle.numbers.specs.Ids.{is_id}
-use borrow.Author.Rules.{rules}
 use Rattle.numbers.proofs.ids.is_id.Goals as goal
 
 pub returns-then-id-eq0 : goal.returns-then-id-eq0

@@ -1,7 +1,5 @@
 -- `numbers::ids::is_made` meets its contract: the maker, then the count. Assumes nothing.
-use borrow.Author.Tests.{not-true, not-false}
 use Rattle.numbers.specs.Ids.{is_made}
-use borrow.Author.Rules.{rules}
 use Rattle.numbers.proofs.ids.is_made.Goals as goal
 
 pub returns-then-not-is_node : goal.returns-then-not-is_node

@@ -3,7 +3,6 @@ use Prim.Native.Nat.{◌/◌, ◌^◌}
 use native.Mathlib.Omega.{arith}
 use borrow.Author.Tests.{lt-leb, le-leb, lt-ltb, le-ltb}
 use Rattle.numbers.specs.Ids.{is_stamp}
-use borrow.Author.Rules.{rules}
 use Rattle.numbers.proofs.ids.is_stamp.Goals as goal
 
 pub returns-then-clock-lt1 : goal.returns-then-clock-lt1

@@ -1,7 +1,6 @@
 -- `numbers::nodes::size` meets its contract: eight bits added up. Assumes nothing.
 use Rattle.numbers.specs.Nodes.{members}
 use Rattle.numbers.specs.Laws.{size_bits}
-use borrow.Author.Rules.{rules}
 use Rattle.numbers.proofs.nodes.size.Goals as goal
 
 pub returns : goal.returns

@@ -1,6 +1,5 @@
 -- `numbers::nodes::without` meets its contract: a bit that stands is turned over. Assumes nothing.
 use mathlib.Core.Path.{sym, ◌∙◌}
-use borrow.Author.Tests.{not-true, not-false}
 use Rattle.numbers.specs.Nodes.{without}
 use Rattle.numbers.specs.Laws.{has_within}
 use borrow.Author.Rules.{rules}

@@ -1,8 +1,7 @@
 -- `messages::acknowledgement::Acknowledgement::fits` meets its contract: field by field, in the order of the definition.
 -- Assumes nothing.
-use Rattle.codec.specs.Lists.{and_go, and_stop, failed, passed}
+use Rattle.codec.specs.Lists.{and_go, and_stop}
 use Rattle.messages.specs.Acknowledgements.{ack_fits}
-use borrow.Author.Rules.{rules}
 use mathlib.Core.Path.{sym, ◌∙◌}
 use Rattle.messages.proofs.acknowledgement.Acknowledgement.fits.Goals as goal
 

@@ -1,8 +1,7 @@
 -- `messages::acknowledgement::Acknowledgement::in_range` meets its contract: the mark, the zeros, the fields. Assumes nothing.
 use mathlib.Core.Path.{ap, sym, ◌∙◌}
-use Rattle.codec.specs.Lists.{and_go, and_stop, failed, passed}
+use Rattle.codec.specs.Lists.{and_go, and_stop}
 use Rattle.messages.specs.Acknowledgements.{ack_fits, ack_range}
-use borrow.Author.Rules.{rules}
 use Rattle.messages.proofs.acknowledgement.Acknowledgement.in_range.Goals as goal
 
 pub returns-then-not-is_marked : goal.returns-then-not-is_marked

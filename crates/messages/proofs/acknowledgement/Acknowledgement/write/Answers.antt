@@ -2,7 +2,6 @@
 use mathlib.Core.Path.{◌∙◌}
 use Rattle.codec.specs.Laws.{after}
 use Rattle.messages.specs.Acknowledgements.{ack_stores}
-use borrow.Author.Rules.{rules}
 use Rattle.messages.proofs.acknowledgement.Acknowledgement.write.Goals as goal
 
 pub returns : goal.returns

@@ -1,9 +1,8 @@
 -- `messages::push_header::PushHeader::fits` meets its contract: field by field, in the order of the definition.
 -- Assumes nothing.
-use Rattle.codec.specs.Lists.{and_go, and_stop, failed, passed}
+use Rattle.codec.specs.Lists.{and_go, and_stop}
 use mathlib.Core.Path.{refl}
 use Rattle.messages.specs.PushHeaders.{push_fits}
-use borrow.Author.Rules.{rules}
 use mathlib.Core.Path.{sym, ◌∙◌}
 use Rattle.messages.proofs.push_header.PushHeader.fits.Goals as goal
 

@@ -2,7 +2,6 @@
 use mathlib.Core.Path.{◌∙◌}
 use Rattle.codec.specs.Laws.{after}
 use Rattle.messages.specs.PushHeaders.{push_stores}
-use borrow.Author.Rules.{rules}
 use Rattle.messages.proofs.push_header.PushHeader.write.Goals as goal
 
 pub returns : goal.returns

@@ -3,7 +3,6 @@ use mathlib.Core.Path.{◌≡◌, ap, ◌∙◌}
 use Prim.Native.Nat.{ℕ, ◌+◌}
 use native.Mathlib.Omega.{arith}
 use Rattle.numbers.specs.Clocks.{ticked_at, new_clock}
-use borrow.Author.Rules.{rules}
 use Rattle.numbers.proofs.clock.Clock.tick.Goals as goal
 
 pub returns-then-now-next : goal.returns-then-now-next

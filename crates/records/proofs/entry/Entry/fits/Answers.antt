@@ -1,9 +1,8 @@
 -- `records::entry::Entry::fits` meets its contract: field by field, in the order of the definition.
 -- Assumes nothing.
 use borrow.Author.Tests.{le-leb, lt-leb}
-use Rattle.codec.specs.Lists.{and_go, and_stop, failed, passed}
+use Rattle.codec.specs.Lists.{and_go, and_stop}
 use Rattle.records.specs.Entries.{entry_fits}
-use borrow.Author.Rules.{rules}
 use borrow.Author.Tests.{le-leb, lt-leb}
 use Rattle.codec.specs.Lists.{and_go, and_stop}
 use mathlib.Core.Path.{sym, ◌∙◌}

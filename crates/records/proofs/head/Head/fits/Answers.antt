@@ -1,7 +1,6 @@
 -- `records::head::Head::fits` meets its contract: the root, or any other. Assumes nothing.
 use borrow.Author.Tests.{eq-eqb, ne_eqb}
 use Rattle.records.specs.Heads.{head_fits}
-use borrow.Author.Rules.{rules}
 use Rattle.records.proofs.head.Head.fits.Goals as goal
 
 pub returns-then-self-eq0 : goal.returns-then-self-eq0

@@ -1,8 +1,7 @@
 -- `records::head::Head::in_range` meets its contract: the mark, the zeros, the fields. Assumes nothing.
 use mathlib.Core.Path.{ap, sym, ◌∙◌}
-use Rattle.codec.specs.Lists.{and_go, and_stop, failed, passed}
+use Rattle.codec.specs.Lists.{and_go, and_stop}
 use Rattle.records.specs.Heads.{head_fits, head_range_law}
-use borrow.Author.Rules.{rules}
 use Rattle.records.proofs.head.Head.in_range.Goals as goal
 
 pub returns-then-not-is_marked : goal.returns-then-not-is_marked

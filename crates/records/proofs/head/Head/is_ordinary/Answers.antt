@@ -1,9 +1,8 @@
 -- `records::head::Head::is_ordinary` meets its contract: field by field, in the order of the definition.
 -- Assumes nothing.
 use borrow.Author.Tests.{le-leb, lt-leb}
-use Rattle.codec.specs.Lists.{and_go, and_stop, failed, passed}
+use Rattle.codec.specs.Lists.{and_go, and_stop}
 use Rattle.records.specs.Heads.{is_ordinary}
-use borrow.Author.Rules.{rules}
 use mathlib.Core.Path.{sym, ◌∙◌}
 use Rattle.records.proofs.head.Head.is_ordinary.Goals as goal
 

@@ -4,7 +4,6 @@ use mathlib.Core.Path.{sym, ◌∙◌}
 use borrow.Author.Tests.{eq-eqb, ne_eqb}
 use Rattle.codec.specs.Lists.{and_go, and_stop}
 use Rattle.records.specs.Heads.{is_root}
-use borrow.Author.Rules.{rules}
 use Rattle.records.proofs.head.Head.is_root.Goals as goal
 
 pub returns-then-self-ne2 : goal.returns-then-self-ne2

@@ -1,7 +1,6 @@
 -- `records::head::Head::root` meets its contract. Assumes nothing.
 use mathlib.Core.Path.{refl}
 use Rattle.records.specs.Heads.{head_ext}
-use borrow.Author.Rules.{rules}
 use Rattle.records.proofs.head.Head.root.Goals as goal
 
 pub returns : goal.returns

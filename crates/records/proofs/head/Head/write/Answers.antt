@@ -2,7 +2,6 @@
 use mathlib.Core.Path.{◌∙◌}
 use Rattle.codec.specs.Laws.{after}
 use Rattle.records.specs.Heads.{head_stores}
-use borrow.Author.Rules.{rules}
 use Rattle.records.proofs.head.Head.write.Goals as goal
 
 pub returns : goal.returns

@@ -1,0 +1,6 @@
+-- `service_c::rumbezalo_spread` meets its contract: the call's answer in one number. Assumes nothing.
+use Rattle.answers.specs.Forms.{packs}
+use Rattle.service_c.proofs.rumbezalo_spread.Goals as goal
+
+pub returns : goal.returns
+returns c = (packs c.pack.ensures c.spread.ensures.0, c.spread.ensures.1)
