@@ -4,7 +4,7 @@ ghost use Rattle.std.specs.Prelude.{◌≡◌, ◌+◌, ◌*◌, ◌≤◌, ◌<
 use crate::adler::adler;
 use crate::wire;
 use answers::Answer;
-use libc::STDOUT_FILENO;
+use std::io;
 
 // A table's length, as it was kept: never more than there is room for.
 fn kept(n: u64) -> usize
@@ -17,7 +17,13 @@ fn kept(n: u64) -> usize
 }
 
 // Answers the request, whose header is formed. False where it is malformed all the same.
-pub fn answer(tables: &mut [u8], lengths: &mut [u64; 8], header: &[u8; 64], payload: &[u8]) -> bool
+pub fn answer(
+    rt: &impl Print,
+    tables: &mut [u8],
+    lengths: &mut [u64; 8],
+    header: &[u8; 64],
+    payload: &[u8],
+) -> io::Result<bool>
     requires { 163840 ≤ length tables.old }
 {
     let slot = wire::slot(header);
@@ -25,54 +31,60 @@ pub fn answer(tables: &mut [u8], lengths: &mut [u64; 8], header: &[u8; 64], payl
     let all = o + 20480;
     if header[0] == 32 {
         if 20480 < payload.len() {
-            return false;
+            return Ok(false);
         }
         codec::replace(&mut tables[o..all], 0, payload);
         lengths[slot] = payload.len() as u64;
-        respond(0, 0, adler(payload), b"");
-        return true;
+        respond(rt, 0, 0, adler(payload), b"")?;
+        return Ok(true);
     }
     let e = o + kept(lengths[slot]);
-    serve(&mut tables[o..e], header, payload)
+    serve(rt, &mut tables[o..e], header, payload)
 }
 
 // Pokes, shows or calls.
-fn serve(table: &mut [u8], header: &[u8; 64], payload: &[u8]) -> bool {
+fn serve(rt: &impl Print, table: &mut [u8], header: &[u8; 64], payload: &[u8]) -> io::Result<bool> {
     if header[0] == 33 {
-        return poke(table, wire::number(header, 0), payload);
+        return poke(rt, table, wire::number(header, 0), payload);
     }
     if header[0] == 34 {
-        show(table);
-        return true;
+        show(rt, table)?;
+        return Ok(true);
     }
-    call(table, header, payload);
-    true
+    call(rt, table, header, payload)?;
+    Ok(true)
 }
 
 // Writes the payload over the table's bytes, if it lies within them.
-fn poke(table: &mut [u8], at: u64, payload: &[u8]) -> bool {
+fn poke(rt: &impl Print, table: &mut [u8], at: u64, payload: &[u8]) -> io::Result<bool> {
     if table.len() < payload.len() {
-        return false;
+        return Ok(false);
     }
     let last = (table.len() - payload.len()) as u64;
     if last < at {
-        return false;
+        return Ok(false);
     }
     codec::replace(table, at as usize, payload);
-    respond(0, 0, adler(table), b"");
-    true
+    respond(rt, 0, 0, adler(table), b"")?;
+    Ok(true)
 }
 
 // Answers the table's length and its bytes.
-fn show(table: &[u8]) {
-    respond(0, (table.len() % 4294967296) as u32, adler(table), table);
+fn show(rt: &impl Print, table: &[u8]) -> io::Result<()> {
+    respond(
+        rt,
+        0,
+        (table.len() % 4294967296) as u32,
+        adler(table),
+        table,
+    )
 }
 
 // Makes the call, with an output buffer as long as the header asks for, filled with the byte A5.
-fn call(table: &mut [u8], header: &[u8; 64], payload: &[u8]) {
+fn call(rt: &impl Print, table: &mut [u8], header: &[u8; 64], payload: &[u8]) -> io::Result<()> {
     let mut out = output_buffer();
     let room = wire::room(header);
-    call_with(table, header, payload, &mut out[..room]);
+    call_with(rt, table, header, payload, &mut out[..room])
 }
 
 // The longest output buffer, filled with the byte A5. The `ensures` gives only the length.
@@ -83,9 +95,15 @@ fn output_buffer() -> [u8; 16384]
 }
 
 // Makes the call with that buffer, and answers it.
-fn call_with(table: &mut [u8], header: &[u8; 64], payload: &[u8], out: &mut [u8]) {
+fn call_with(
+    rt: &impl Print,
+    table: &mut [u8],
+    header: &[u8; 64],
+    payload: &[u8],
+    out: &mut [u8],
+) -> io::Result<()> {
     let answer = made(table, header, payload, out);
-    respond(answer.number, answer.value, adler(table), out);
+    respond(rt, answer.number, answer.value, adler(table), out)
 }
 
 // The call that the code names.
@@ -134,11 +152,11 @@ fn changed(table: &mut [u8], header: &[u8; 64], payload: &[u8]) -> Answer {
 }
 
 // Writes number, value, checksum and four zeros, and then the output.
-fn respond(number: u32, value: u32, sum: u32, output: &[u8]) {
+fn respond(rt: &impl Print, number: u32, value: u32, sum: u32, output: &[u8]) -> io::Result<()> {
     let mut head = [0u8; 16];
     codec::put_u32(&mut head, 0, number);
     codec::put_u32(&mut head, 4, value);
     codec::put_u32(&mut head, 8, sum);
-    io::write_all(STDOUT_FILENO, &head);
-    io::write_all(STDOUT_FILENO, output);
+    rt.write_all(&head)?;
+    rt.write_all(output)
 }

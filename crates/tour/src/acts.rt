@@ -1,5 +1,6 @@
 // What the nodes do in the scenes: each act makes one of the library's calls at one node, and prints who does
-// what, the answer in words, and what is pending then.
+// what, the answer in words, and what is pending then. An error in printing who does what leaves the tables as
+// they were; one after that leaves them as the calls until then left them.
 //
 // c is the cluster: three tables side by side, that of node 1 first. A reference to the array asks no proof
 // of its length; a function that lends a part of it to a call takes it as a slice.
@@ -7,6 +8,7 @@ ghost use Rattle.std.specs.Prelude.{◌≡◌, ◌≤◌, length};
 
 use crate::{rounds, say, tree};
 use answers::Answer;
+use std::io;
 
 // The table of node n.
 pub fn table(c: &[u8; 40032], n: usize) -> &[u8]
@@ -20,57 +22,57 @@ pub fn table(c: &[u8; 40032], n: usize) -> &[u8]
 }
 
 // Prints who acts.
-fn node(n: usize) {
-    say::text(b"  Node ");
-    say::number(n as u64);
+fn node(rt: &impl Print, n: usize) -> io::Result<()> {
+    say::text(rt, b"  Node ")?;
+    say::number(rt, n as u64)
 }
 
 // Prints when it acts.
-fn at(time: u64) {
-    say::text(b" at ");
-    say::number(time);
+fn at(rt: &impl Print, time: u64) -> io::Result<()> {
+    say::text(rt, b" at ")?;
+    say::number(rt, time)
 }
 
 // Prints the replica that is acted on, by its place and id.
-fn target(t: &[u8], id: u32)
+fn target(rt: &impl Print, t: &[u8], id: u32) -> io::Result<()>
     requires { 13344 ≤ length t.now }
 {
-    tree::place(t, id);
-    say::text(b" (id ");
-    say::number(id as u64);
-    say::text(b")");
+    tree::place(rt, t, id)?;
+    say::text(rt, b" (id ")?;
+    say::number(rt, id as u64)?;
+    say::text(rt, b")")
 }
 
 // Prints a name in a directory.
-fn goal(t: &[u8], directory: u32, name: &[u8])
+fn goal(rt: &impl Print, t: &[u8], directory: u32, name: &[u8]) -> io::Result<()>
     requires { 13344 ≤ length t.now }
 {
-    tree::place(t, directory);
-    say::text(b"/");
-    say::text(name);
+    tree::place(rt, t, directory)?;
+    say::text(rt, b"/")?;
+    say::text(rt, name)
 }
 
 // Prints what kind is made.
-fn makes(kind: u64) {
+fn makes(rt: &impl Print, kind: u64) -> io::Result<()> {
     if kind == 1 {
-        say::text(b" makes the file ");
-        return;
+        return say::text(rt, b" makes the file ");
     }
-    say::text(b" makes the directory ");
+    say::text(rt, b" makes the directory ")
 }
 
 // Prints for whom it is made, if not for all.
-fn holders(set: u64) {
+fn holders(rt: &impl Print, set: u64) -> io::Result<()> {
     if set == 0 {
-        say::text(b" for itself");
+        return say::text(rt, b" for itself");
     }
+    Ok(())
 }
 
 // Prints the answer, and what is pending.
-fn done(c: &[u8; 40032], answer: Answer) {
-    say::text(b": ");
-    say::outcome(answer);
-    rounds::pending(c);
+fn done(rt: &impl Print, c: &[u8; 40032], answer: Answer) -> io::Result<()> {
+    say::text(rt, b": ")?;
+    say::outcome(rt, answer)?;
+    rounds::pending(rt, c)
 }
 
 // Node n starts, and is one of three.
@@ -83,25 +85,34 @@ fn start_at(c: &mut [u8], n: usize) -> Answer
 }
 
 // The three nodes start afresh.
-pub fn start(c: &mut [u8; 40032]) {
-    say::text(b"  Nodes 1, 2 and 3 start: ");
-    say::outcome(start_at(c, 1));
-    say::text(b", ");
-    say::outcome(start_at(c, 2));
-    say::text(b", ");
-    say::outcome(start_at(c, 3));
-    rounds::pending(c);
+pub fn start(rt: &impl Print, c: &mut [u8; 40032]) -> io::Result<()> {
+    say::text(rt, b"  Nodes 1, 2 and 3 start: ")?;
+    say::outcome(rt, start_at(c, 1))?;
+    say::text(rt, b", ")?;
+    say::outcome(rt, start_at(c, 2))?;
+    say::text(rt, b", ")?;
+    say::outcome(rt, start_at(c, 3))?;
+    rounds::pending(rt, c)
 }
 
 // Prints what is created, where, for whom and when.
-fn creates(t: &[u8], n: usize, time: u64, directory: u32, kind: u64, name: &[u8], set: u64)
+fn creates(
+    rt: &impl Print,
+    t: &[u8],
+    n: usize,
+    time: u64,
+    directory: u32,
+    kind: u64,
+    name: &[u8],
+    set: u64,
+) -> io::Result<()>
     requires { 13344 ≤ length t.now }
 {
-    node(n);
-    makes(kind);
-    goal(t, directory, name);
-    holders(set);
-    at(time);
+    node(rt, n)?;
+    makes(rt, kind)?;
+    goal(rt, t, directory, name)?;
+    holders(rt, set)?;
+    at(rt, time)
 }
 
 // Makes the call.
@@ -124,6 +135,7 @@ fn create_at(
 // Node n creates a file (1) or a directory (2) with that name in the directory, for all nodes, or for itself
 // if the set is empty.
 pub fn create(
+    rt: &impl Print,
     c: &mut [u8; 40032],
     n: usize,
     time: u64,
@@ -131,24 +143,32 @@ pub fn create(
     kind: u64,
     name: &[u8],
     set: u64,
-)
+) -> io::Result<()>
     requires { (1 ≤ n) × (n ≤ 3) }
 {
-    creates(table(c, n), n, time, directory, kind, name, set);
+    creates(rt, table(c, n), n, time, directory, kind, name, set)?;
     let answer = create_at(c, n, time, directory, kind, name, set);
-    done(c, answer);
+    done(rt, c, answer)
 }
 
 // Prints what is renamed, to which place and when.
-fn renames(t: &[u8], n: usize, time: u64, id: u32, directory: u32, name: &[u8])
+fn renames(
+    rt: &impl Print,
+    t: &[u8],
+    n: usize,
+    time: u64,
+    id: u32,
+    directory: u32,
+    name: &[u8],
+) -> io::Result<()>
     requires { 13344 ≤ length t.now }
 {
-    node(n);
-    say::text(b" moves ");
-    target(t, id);
-    say::text(b" to ");
-    goal(t, directory, name);
-    at(time);
+    node(rt, n)?;
+    say::text(rt, b" moves ")?;
+    target(rt, t, id)?;
+    say::text(rt, b" to ")?;
+    goal(rt, t, directory, name)?;
+    at(rt, time)
 }
 
 // Makes the call.
@@ -161,22 +181,30 @@ fn rename_at(c: &mut [u8], n: usize, time: u64, id: u32, directory: u32, name: &
 }
 
 // Node n renames the file to the name in the directory.
-pub fn rename(c: &mut [u8; 40032], n: usize, time: u64, id: u32, directory: u32, name: &[u8])
+pub fn rename(
+    rt: &impl Print,
+    c: &mut [u8; 40032],
+    n: usize,
+    time: u64,
+    id: u32,
+    directory: u32,
+    name: &[u8],
+) -> io::Result<()>
     requires { (1 ≤ n) × (n ≤ 3) }
 {
-    renames(table(c, n), n, time, id, directory, name);
+    renames(rt, table(c, n), n, time, id, directory, name)?;
     let answer = rename_at(c, n, time, id, directory, name);
-    done(c, answer);
+    done(rt, c, answer)
 }
 
 // Prints what is removed, and when.
-fn removes(t: &[u8], n: usize, time: u64, id: u32)
+fn removes(rt: &impl Print, t: &[u8], n: usize, time: u64, id: u32) -> io::Result<()>
     requires { 13344 ≤ length t.now }
 {
-    node(n);
-    say::text(b" removes ");
-    target(t, id);
-    at(time);
+    node(rt, n)?;
+    say::text(rt, b" removes ")?;
+    target(rt, t, id)?;
+    at(rt, time)
 }
 
 // Makes the call.
@@ -189,32 +217,39 @@ fn remove_at(c: &mut [u8], n: usize, time: u64, id: u32) -> Answer
 }
 
 // Node n removes the directory.
-pub fn remove(c: &mut [u8; 40032], n: usize, time: u64, id: u32)
+pub fn remove(rt: &impl Print, c: &mut [u8; 40032], n: usize, time: u64, id: u32) -> io::Result<()>
     requires { (1 ≤ n) × (n ≤ 3) }
 {
-    removes(table(c, n), n, time, id);
+    removes(rt, table(c, n), n, time, id)?;
     let answer = remove_at(c, n, time, id);
-    done(c, answer);
+    done(rt, c, answer)
 }
 
 // Prints who tells whom of what.
-fn tells(t: &[u8], from: usize, to: usize, time: u64, id: u32)
+fn tells(rt: &impl Print, t: &[u8], from: usize, to: usize, time: u64, id: u32) -> io::Result<()>
     requires { 13344 ≤ length t.now }
 {
-    node(from);
-    say::text(b" tells node ");
-    say::number(to as u64);
-    say::text(b" of ");
-    target(t, id);
-    say::text(b", which receives that");
-    at(time);
+    node(rt, from)?;
+    say::text(rt, b" tells node ")?;
+    say::number(rt, to as u64)?;
+    say::text(rt, b" of ")?;
+    target(rt, t, id)?;
+    say::text(rt, b", which receives that")?;
+    at(rt, time)
 }
 
 // Node `from` tells node `to` of the replica with that id.
-pub fn tell(c: &mut [u8; 40032], from: usize, to: usize, time: u64, id: u32)
+pub fn tell(
+    rt: &impl Print,
+    c: &mut [u8; 40032],
+    from: usize,
+    to: usize,
+    time: u64,
+    id: u32,
+) -> io::Result<()>
     requires { (1 ≤ from) × (from ≤ 3) × (1 ≤ to) × (to ≤ 3) }
 {
-    tells(table(c, from), from, to, time, id);
+    tells(rt, table(c, from), from, to, time, id)?;
     let answer = rounds::tell(c, from, to, time, id, false);
-    done(c, answer);
+    done(rt, c, answer)
 }

@@ -2,6 +2,7 @@
 ghost use Rattle.std.specs.Prelude.{◌≤◌, ◌<◌, length};
 
 use crate::{acts, tree};
+use std::io;
 use table::find;
 
 // Whether row i of the one listing is among the first m of the other. Slots may be in another order.
@@ -74,41 +75,37 @@ fn agree(a: &[u8], b: &[u8]) -> bool
 }
 
 // Draws what nodes 2 and 3 show, where node 1 shows something else.
-fn show_others(two: &[u8], three: &[u8])
+fn show_others(rt: &impl Print, two: &[u8], three: &[u8]) -> io::Result<()>
     requires { (13344 ≤ length two.now) × (13344 ≤ length three.now) }
 {
     if agree(two, three) {
-        tree::draw(two, 6);
-        return;
+        return tree::draw(rt, two, 6);
     }
-    tree::draw(two, 2);
-    tree::draw(three, 4);
+    tree::draw(rt, two, 2)?;
+    tree::draw(rt, three, 4)
 }
 
 // Draws what three tables show: one tree for those that show the same.
-fn show_each(one: &[u8], two: &[u8], three: &[u8])
+fn show_each(rt: &impl Print, one: &[u8], two: &[u8], three: &[u8]) -> io::Result<()>
     requires { (13344 ≤ length one.now) × (13344 ≤ length two.now)
         × (13344 ≤ length three.now) }
 {
     if agree(one, two) {
         if agree(one, three) {
-            tree::draw(one, 7);
-            return;
+            return tree::draw(rt, one, 7);
         }
-        tree::draw(one, 3);
-        tree::draw(three, 4);
-        return;
+        tree::draw(rt, one, 3)?;
+        return tree::draw(rt, three, 4);
     }
     if agree(one, three) {
-        tree::draw(one, 5);
-        tree::draw(two, 2);
-        return;
+        tree::draw(rt, one, 5)?;
+        return tree::draw(rt, two, 2);
     }
-    tree::draw(one, 1);
-    show_others(two, three);
+    tree::draw(rt, one, 1)?;
+    show_others(rt, two, three)
 }
 
 // Draws what the nodes show.
-pub fn show(c: &[u8; 40032]) {
-    show_each(acts::table(c, 1), acts::table(c, 2), acts::table(c, 3));
+pub fn show(rt: &impl Print, c: &[u8; 40032]) -> io::Result<()> {
+    show_each(rt, acts::table(c, 1), acts::table(c, 2), acts::table(c, 3))
 }

@@ -6,6 +6,9 @@
 // Proved here is that it is safe and ends. What it prints is held to `stdout`, which was read against
 // document 01; `document` has both runs computed from the definitions. What opens a scene, and what it
 // says at its end after "So:", is fixed text.
+//
+// A write that fails ends the tour with its error, and what was printed so far stays. A function that prints
+// answers the first such error, and then does no more.
 #![tactic(auto)]
 
 mod acts;
@@ -20,9 +23,12 @@ mod tree;
 
 ghost use Rattle.std.specs.Prelude.{◌≡◌, length};
 
+use std::io;
+
 // Prints how to read what follows.
-fn headline() {
+fn headline(rt: &impl Print) -> io::Result<()> {
     say::text(
+        rt,
         b"Three nodes share one tree: a tour in four scenes. A call changes the table of the\n\
           node that makes it. Pushes then tell the other nodes that hold what was changed; each\n\
           is pending until it is acknowledged. In a round each node in turn sends the others all\n\
@@ -31,16 +37,16 @@ fn headline() {
           1, 2 and 3. A new file changes its directory too, so it is two things to tell to each of\n\
           the others, and a node passes on what it took in. Quiet is when none is pending. A stamp\n\
           is 256 * clock + node. Each scene is a cluster of its own.\n",
-    );
+    )
 }
 
-fn main() {
-    headline();
+fn main(rt: HostRuntime) -> io::Result<()> {
+    headline(&rt)?;
     let mut cluster = tables();
-    moved::scene(&mut cluster);
-    removed::scene(&mut cluster);
-    named::scene(&mut cluster);
-    parted::scene(&mut cluster);
+    moved::scene(&rt, &mut cluster)?;
+    removed::scene(&rt, &mut cluster)?;
+    named::scene(&rt, &mut cluster)?;
+    parted::scene(&rt, &mut cluster)
 }
 
 // Room for three tables. The `ensures` gives only the length, which lending the array needs.

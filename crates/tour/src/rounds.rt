@@ -1,29 +1,30 @@
-// What is pending at the three nodes, and messages between them in rounds until nothing is.
-ghost use Rattle.std.specs.Prelude.{◌≡◌, ◌≤◌, ◌<◌, length};
+// What is pending at the three nodes, and messages between them in rounds until nothing is. An error in printing
+// leaves the tables as the messages until then left them.
+ghost use Rattle.std.specs.Prelude.{◌≡◌, ◌≤◌, ◌<◌, length, IfOk};
 
 use crate::{acts, agree, say};
 use answers::Answer;
+use std::io;
 use table::find;
 
 // Prints how many pushes a node has pending.
-fn pending_at(t: &[u8]) {
+fn pending_at(rt: &impl Print, t: &[u8]) -> io::Result<()> {
     let answer = service::pending::pending(t);
     if answer.number != 0 {
-        say::outcome(answer);
-        return;
+        return say::outcome(rt, answer);
     }
-    say::number(answer.value as u64);
+    say::number(rt, answer.value as u64)
 }
 
 // Prints how many pushes each node has pending.
-pub fn pending(c: &[u8; 40032]) {
-    say::text(b". Pending ");
-    pending_at(acts::table(c, 1));
-    say::text(b", ");
-    pending_at(acts::table(c, 2));
-    say::text(b", ");
-    pending_at(acts::table(c, 3));
-    say::text(b".\n");
+pub fn pending(rt: &impl Print, c: &[u8; 40032]) -> io::Result<()> {
+    say::text(rt, b". Pending ")?;
+    pending_at(rt, acts::table(c, 1))?;
+    say::text(rt, b", ")?;
+    pending_at(rt, acts::table(c, 2))?;
+    say::text(rt, b", ")?;
+    pending_at(rt, acts::table(c, 3))?;
+    say::text(rt, b".\n")
 }
 
 // Room for the longest push. The `ensures` gives only the length, which lending the array needs.
@@ -82,7 +83,7 @@ fn tell_by(
     if is_cut {
         return pushed;
     }
-    let size = io::count(pushed.value as isize, message);
+    let size = message.len().min(pushed.value as usize);
     deliver(c, from, to, time, &message[..size])
 }
 
@@ -105,66 +106,89 @@ fn id_at(c: &[u8; 40032], n: usize, s: usize) -> u32
 // Tells of the replica in slot s, and answers how many pushes were sent for it, 0 or 1. Another
 // refusal than that nothing is pending is printed.
 fn tell_slot(
+    rt: &impl Print,
     c: &mut [u8; 40032],
     from: usize,
     to: usize,
     time: u64,
     s: usize,
     is_cut: bool,
-) -> usize
+) -> io::Result<usize>
     requires { (1 ≤ from) × (from ≤ 3) × (1 ≤ to) × (to ≤ 3) × (s < 64) }
-    ensures { result ≤ 1 }
+    ensures { IfOk result (λ n. n ≤ 1) }
 {
     let told = tell(c, from, to, time, id_at(c, from, s), is_cut);
     if told.number == 14 {
-        return 0;
+        return Ok(0);
     }
     if told.number != 0 {
-        say::text(b", ");
-        say::outcome(told);
+        say::text(rt, b", ")?;
+        say::outcome(rt, told)?;
     }
-    1
+    Ok(1)
 }
 
 // The first node tells the second of all that is pending, and answers how many pushes these are.
-fn tell_all(c: &mut [u8; 40032], from: usize, to: usize, time: u64, is_cut: bool) -> usize
+fn tell_all(
+    rt: &impl Print,
+    c: &mut [u8; 40032],
+    from: usize,
+    to: usize,
+    time: u64,
+    is_cut: bool,
+) -> io::Result<usize>
     requires { (1 ≤ from) × (from ≤ 3) × (1 ≤ to) × (to ≤ 3) }
 {
     let m = find::replicas_used(acts::table(c, from));
     let mut sent = 0;
     let mut s = 0;
     while s < m {
-        sent += tell_slot(c, from, to, time, s, is_cut);
+        sent += tell_slot(rt, c, from, to, time, s, is_cut)?;
         s += 1;
     }
-    sent
+    Ok(sent)
 }
 
 // Prints how many pushes one node sent another.
-fn count(from: usize, to: usize, sent: usize, is_cut: bool) {
+fn count(rt: &impl Print, from: usize, to: usize, sent: usize, is_cut: bool) -> io::Result<()> {
     if sent == 0 {
-        return;
+        return Ok(());
     }
-    say::text(b", ");
-    say::number(from as u64);
-    say::text(b"->");
-    say::number(to as u64);
-    say::text(b": ");
-    say::number(sent as u64);
+    say::text(rt, b", ")?;
+    say::number(rt, from as u64)?;
+    say::text(rt, b"->")?;
+    say::number(rt, to as u64)?;
+    say::text(rt, b": ")?;
+    say::number(rt, sent as u64)?;
     if is_cut {
-        say::text(b" lost");
+        return say::text(rt, b" lost");
     }
+    Ok(())
 }
 
 // The first node tells the second of all that is pending, and this is printed.
-fn exchange(c: &mut [u8; 40032], from: usize, to: usize, time: u64, is_cut: bool)
+fn exchange(
+    rt: &impl Print,
+    c: &mut [u8; 40032],
+    from: usize,
+    to: usize,
+    time: u64,
+    is_cut: bool,
+) -> io::Result<()>
     requires { (1 ≤ from) × (from ≤ 3) × (1 ≤ to) × (to ≤ 3) }
 {
-    count(from, to, tell_all(c, from, to, time, is_cut), is_cut);
+    count(
+        rt,
+        from,
+        to,
+        tell_all(rt, c, from, to, time, is_cut)?,
+        is_cut,
+    )
 }
 
 // A node tells two others of all that is pending, each by a link that may be cut.
 fn speak(
+    rt: &impl Print,
     c: &mut [u8; 40032],
     from: usize,
     first: usize,
@@ -172,21 +196,21 @@ fn speak(
     second: usize,
     is_second_cut: bool,
     time: u64,
-)
+) -> io::Result<()>
     requires { (1 ≤ from) × (from ≤ 3) × (1 ≤ first) × (first ≤ 3) × (1 ≤ second) × (second ≤ 3) }
 {
-    exchange(c, from, first, time, is_first_cut);
-    exchange(c, from, second, time, is_second_cut);
+    exchange(rt, c, from, first, time, is_first_cut)?;
+    exchange(rt, c, from, second, time, is_second_cut)
 }
 
 // One round: each node in turn tells the others of all that is pending. Where node 3 is cut off, what goes
 // to it or comes from it is lost.
-pub fn round(c: &mut [u8; 40032], time: u64, is_cut: bool) {
-    say::text(b"  A round");
-    speak(c, 1, 2, false, 3, is_cut, time);
-    speak(c, 2, 1, false, 3, is_cut, time);
-    speak(c, 3, 1, is_cut, 2, is_cut, time);
-    pending(c);
+pub fn round(rt: &impl Print, c: &mut [u8; 40032], time: u64, is_cut: bool) -> io::Result<()> {
+    say::text(rt, b"  A round")?;
+    speak(rt, c, 1, 2, false, 3, is_cut, time)?;
+    speak(rt, c, 2, 1, false, 3, is_cut, time)?;
+    speak(rt, c, 3, 1, is_cut, 2, is_cut, time)?;
+    pending(rt, c)
 }
 
 // Whether the node has nothing pending.
@@ -210,29 +234,28 @@ fn is_quiet(c: &[u8; 40032]) -> bool {
 }
 
 // Rounds until nothing is pending anywhere; never more than eight. Answers whether nothing is.
-fn settle(c: &mut [u8; 40032], time: u64) -> bool {
+fn settle(rt: &impl Print, c: &mut [u8; 40032], time: u64) -> io::Result<bool> {
     let mut turns: u64 = 0;
     while turns < 8 {
         if is_quiet(c) {
-            return true;
+            return Ok(true);
         }
-        round(c, time, false);
+        round(rt, c, time, false)?;
         turns += 1;
     }
-    is_quiet(c)
+    Ok(is_quiet(c))
 }
 
 // Prints whether all fell quiet.
-fn verdict(are_quiet: bool) {
+fn verdict(rt: &impl Print, are_quiet: bool) -> io::Result<()> {
     if are_quiet {
-        say::text(b"  Quiet: nothing is pending anywhere.\n");
-        return;
+        return say::text(rt, b"  Quiet: nothing is pending anywhere.\n");
     }
-    say::text(b"  Not quiet after eight rounds.\n");
+    say::text(rt, b"  Not quiet after eight rounds.\n")
 }
 
 // All fall quiet, and show what they hold.
-pub fn quiet(c: &mut [u8; 40032], time: u64) {
-    verdict(settle(c, time));
-    agree::show(c);
+pub fn quiet(rt: &impl Print, c: &mut [u8; 40032], time: u64) -> io::Result<()> {
+    verdict(rt, settle(rt, c, time)?)?;
+    agree::show(rt, c)
 }

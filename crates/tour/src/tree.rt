@@ -4,6 +4,7 @@ ghost use Rattle.std.specs.Prelude.{◌≡◌, ◌+◌, ◌≤◌, ◌<◌, leng
 
 use crate::say;
 use answers::Answer;
+use std::io;
 use table::find;
 use table::find::Found;
 
@@ -72,27 +73,27 @@ pub fn listed(t: &[u8], id: u32, out: &mut [u8]) -> usize
 }
 
 // Prints the name that stands at o.
-fn name(t: &[u8], o: usize)
+fn name(rt: &impl Print, t: &[u8], o: usize) -> io::Result<()>
     requires { o + 16 ≤ length t.now }
 {
     let n = codec::get_u8(t, o);
     if n <= 15 {
-        say::text(codec::part(t, o + 1, n as usize));
+        return say::text(rt, codec::part(t, o + 1, n as usize));
     }
+    Ok(())
 }
 
 // Prints the bars that lead down to later rows of the directories above, highest first: bars has a
 // binary digit for each, the lowest for the deepest.
-fn indent(bars: u64, level: u8) {
+fn indent(rt: &impl Print, bars: u64, level: u8) -> io::Result<()> {
     if level == 0 {
-        return;
+        return Ok(());
     }
-    indent(bars / 2, level - 1);
+    indent(rt, bars / 2, level - 1)?;
     if bars % 2 == 1 {
-        say::text(b"|   ");
-        return;
+        return say::text(rt, b"|   ");
     }
-    say::text(b"    ");
+    say::text(rt, b"    ")
 }
 
 // The bars below a row: one more, drawn if further rows follow.
@@ -105,53 +106,59 @@ fn bars_below(bars: u64, is_last: bool) -> u64 {
 }
 
 // Prints the branch that a row hangs on.
-fn branch(bars: u64, level: u8, is_last: bool) {
-    say::text(b"    ");
-    indent(bars, level);
+fn branch(rt: &impl Print, bars: u64, level: u8, is_last: bool) -> io::Result<()> {
+    say::text(rt, b"    ")?;
+    indent(rt, bars, level)?;
     if is_last {
-        say::text(b"`-- ");
-        return;
+        return say::text(rt, b"`-- ");
     }
-    say::text(b"|-- ");
+    say::text(rt, b"|-- ")
 }
 
 // Prints which nodes hold the child, as far as this node knows.
-fn held(t: &[u8], child: u32)
+fn held(rt: &impl Print, t: &[u8], child: u32) -> io::Result<()>
     requires { 13344 ≤ length t.now }
 {
     let set = holders(t, child);
     if set == 0 {
-        say::text(b", not held here\n");
-        return;
+        return say::text(rt, b", not held here\n");
     }
-    say::text(b", held by ");
-    say::nodes(set);
-    say::text(b"\n");
+    say::text(rt, b", held by ")?;
+    say::nodes(rt, set)?;
+    say::text(rt, b"\n")
 }
 
 // Prints what stands in the row at o of a listing: name, id, stamp, and who holds it.
-fn cells(t: &[u8], listing: &[u8], o: usize)
+fn cells(rt: &impl Print, t: &[u8], listing: &[u8], o: usize) -> io::Result<()>
     requires { (13344 ≤ length t.now) × (o + 32 ≤ length listing.now) }
 {
     let child = codec::get_u32(listing, o + 4);
-    name(listing, o + 16);
+    name(rt, listing, o + 16)?;
     if is_directory(t, child) {
-        say::text(b"/");
+        say::text(rt, b"/")?;
     }
-    say::text(b"  id ");
-    say::number(child as u64);
-    say::text(b", ");
-    say::stamp(codec::get_u64(listing, o + 8));
-    held(t, child);
+    say::text(rt, b"  id ")?;
+    say::number(rt, child as u64)?;
+    say::text(rt, b", ")?;
+    say::stamp(rt, codec::get_u64(listing, o + 8))?;
+    held(rt, t, child)
 }
 
 // Prints row i of a listing.
-fn row(t: &[u8], listing: &[u8], i: usize, is_last: bool, left: u8, bars: u64)
+fn row(
+    rt: &impl Print,
+    t: &[u8],
+    listing: &[u8],
+    i: usize,
+    is_last: bool,
+    left: u8,
+    bars: u64,
+) -> io::Result<()>
     requires { (13344 ≤ length t.now) × (1024 ≤ length listing.now)
         × (i < 32) × (left ≤ 16) }
 {
-    branch(bars, 16 - left, is_last);
-    cells(t, listing, 32 * i);
+    branch(rt, bars, 16 - left, is_last)?;
+    cells(rt, t, listing, 32 * i)
 }
 
 // Lists the child of row i of a listing.
@@ -164,38 +171,46 @@ fn listed_below(t: &[u8], listing: &[u8], i: usize, out: &mut [u8]) -> usize
 
 // Prints the rows of a listing from i on, and below each what is listed there. `left` is how many levels
 // may still come: it falls with each, and i rises to n.
-fn rows(t: &[u8], listing: &[u8], i: usize, n: usize, left: u8, bars: u64)
+fn rows(
+    rt: &impl Print,
+    t: &[u8],
+    listing: &[u8],
+    i: usize,
+    n: usize,
+    left: u8,
+    bars: u64,
+) -> io::Result<()>
     requires { (13344 ≤ length t.now) × (1024 ≤ length listing.now)
         × (n ≤ 32) × (left ≤ 16) }
 {
     if left == 0 {
-        return;
+        return Ok(());
     }
     if n <= i {
-        return;
+        return Ok(());
     }
     let is_last = i + 1 == n;
-    row(t, listing, i, is_last, left, bars);
+    row(rt, t, listing, i, is_last, left, bars)?;
     let mut below = longest_listing();
     let m = listed_below(t, listing, i, &mut below);
-    rows(t, &below, 0, m, left - 1, bars_below(bars, is_last));
-    rows(t, listing, i + 1, n, left, bars);
+    rows(rt, t, &below, 0, m, left - 1, bars_below(bars, is_last))?;
+    rows(rt, t, listing, i + 1, n, left, bars)
 }
 
 // Draws the tree of the table, which is what these nodes show.
-pub fn draw(t: &[u8], set: u8)
+pub fn draw(rt: &impl Print, t: &[u8], set: u8) -> io::Result<()>
     requires { 13344 ≤ length t.now }
 {
-    say::text(b"  On ");
-    say::nodes(set);
-    say::text(b":\n    /\n");
+    say::text(rt, b"  On ")?;
+    say::nodes(rt, set)?;
+    say::text(rt, b":\n    /\n")?;
     let mut listing = longest_listing();
     let answer = service::list::list(t, 0, &mut listing);
     if answer.number != 0 {
-        say::outcome(answer);
-        say::text(b"\n");
+        say::outcome(rt, answer)?;
+        say::text(rt, b"\n")?;
     }
-    rows(t, &listing, 0, rows_of(answer), 16, 0);
+    rows(rt, t, &listing, 0, rows_of(answer), 16, 0)
 }
 
 // The slot of the place directory of the replica in slot s; the root's, if that is not held.
@@ -211,72 +226,72 @@ fn above(t: &[u8], s: usize) -> usize
 }
 
 // Prints the last part of the path of the replica in slot s.
-fn last(t: &[u8], s: usize)
+fn last(rt: &impl Print, t: &[u8], s: usize) -> io::Result<()>
     requires { (13344 ≤ length t.now) × (s < 64) }
 {
-    say::text(b"/");
-    name(t, 32 + 48 * s + 24);
+    say::text(rt, b"/")?;
+    name(rt, t, 32 + 48 * s + 24)
 }
 
 // Prints the path of the replica in slot s: that of its place directory, and then its name. The root's
 // is empty.
-fn path(t: &[u8], s: usize, depth: u8)
+fn path(rt: &impl Print, t: &[u8], s: usize, depth: u8) -> io::Result<()>
     requires { (13344 ≤ length t.now) × (s < 64) }
 {
     if depth == 0 {
-        return;
+        return Ok(());
     }
-    path(t, above(t, s), depth - 1);
-    last(t, s);
+    path(rt, t, above(t, s), depth - 1)?;
+    last(rt, t, s)
 }
 
 // Prints the path of the replica with that id.
-pub fn place(t: &[u8], id: u32)
+pub fn place(rt: &impl Print, t: &[u8], id: u32) -> io::Result<()>
     requires { 13344 ≤ length t.now }
 {
     let s = slot_of(t, id);
     if 64 <= s {
-        say::text(b"what is not held");
-        return;
+        return say::text(rt, b"what is not held");
     }
-    path(t, s, codec::get_u8(t, 32 + 48 * s + 17));
+    path(rt, t, s, codec::get_u8(t, 32 + 48 * s + 17))
 }
 
 // Prints the entry that stands at o, by its path, if it is struck out.
-fn struck_at(t: &[u8], o: usize)
+fn struck_at(rt: &impl Print, t: &[u8], o: usize) -> io::Result<()>
     requires { (13344 ≤ length t.now) × (o + 40 ≤ length t.now) }
 {
     if codec::get_u8(t, o + 2) == 1 {
-        return;
+        return Ok(());
     }
-    say::text(b" ");
-    place(t, codec::get_u32(t, o + 32));
-    say::text(b"/");
-    name(t, o + 16);
-    say::text(b", ");
-    say::stamp(codec::get_u64(t, o + 8));
-    say::text(b".");
+    say::text(rt, b" ")?;
+    place(rt, t, codec::get_u32(t, o + 32))?;
+    say::text(rt, b"/")?;
+    name(rt, t, o + 16)?;
+    say::text(rt, b", ")?;
+    say::stamp(rt, codec::get_u64(t, o + 8))?;
+    say::text(rt, b".")
 }
 
 // Prints the entries that are struck out.
-fn struck_entries(t: &[u8])
+fn struck_entries(rt: &impl Print, t: &[u8]) -> io::Result<()>
     requires { 13344 ≤ length t.now }
 {
     let k = find::entries_used(t);
     let mut i = 0;
     while i < k {
-        struck_at(t, 3104 + 40 * i);
+        struck_at(rt, t, 3104 + 40 * i)?;
         i += 1;
     }
+    Ok(())
 }
 
 // Prints the entries that are struck out in the table of a node.
-pub fn struck(t: &[u8])
+pub fn struck(rt: &impl Print, t: &[u8]) -> io::Result<()>
     requires { 13344 ≤ length t.now }
 {
-    say::text(b"  Struck out at node ");
-    say::number(codec::get_u8(t, 2) as u64);
-    say::text(b":");
-    struck_entries(t);
-    say::text(b"\n");
+    say::text(rt, b"  Struck out at node ")?;
+    say::number(rt, codec::get_u8(t, 2) as u64)?;
+    say::text(rt, b":")?;
+    struck_entries(rt, t)?;
+    say::text(rt, b"\n")
 }
