@@ -1,4 +1,4 @@
-//! Links the static library that `rt staticlib service` writes.
+//! Links the static library that `.ci/library` writes.
 
 use std::env;
 use std::path::PathBuf;
@@ -16,7 +16,7 @@ fn main() {
     println!("cargo:rerun-if-changed={}", archive.display());
     if !archive.is_file() {
         eprintln!("{} is not there.", archive.display());
-        eprintln!("Run `rt staticlib service` at the top of the repository first.");
+        eprintln!("Run `.ci/library` at the top of the repository first.");
         exit(1);
     }
     println!("cargo:rustc-link-search=native={}", folder.display());

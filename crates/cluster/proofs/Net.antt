@@ -21,7 +21,7 @@ use Rattle.views.specs.Maps.{on_found, find_map, head_map}
 use Rattle.views.specs.Chains.{chain_held}
 use Rattle.kept.specs.Clears.{cleared, clear_map, cleared_head, cleared_version}
 use Rattle.cluster.specs.Cluster.{Node, State, state_of}
-use Rattle.cluster.proofs.Ranks.{rank_o, rank, vers, pend, Leq, Covers, leq_trans}
+use Rattle.cluster.proofs.Ranks.{rank_o, vers, pend, Leq, Covers, leq_trans}
 use Rattle.cluster.proofs.Invariants.{World, TruePush, From, Inv}
 use Rattle.cluster.proofs.Facts.{facts_at}
 use Rattle.cluster.proofs.Directory.{inside_find, inside_in}

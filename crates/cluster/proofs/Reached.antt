@@ -1,6 +1,6 @@
 -- From bytes to tables and back: what holds of every cluster that can be reached, and that each call of a node keeps
 -- it. Assumes nothing.
-use Rattle.std.specs.Prelude.{◌≡◌, refl, Bool, true, false, cond, List, [], ◌∷◌, ◌++◌, ℕ, ◌+◌, ◌≤◌, eqb, length}
+use Rattle.std.specs.Prelude.{◌≡◌, refl, Bool, true, false, cond, List, [], ◌∷◌, ◌++◌, ℕ, ◌≤◌, eqb, length}
 use Rattle.std.proofs.Common.{ap, sym, subst, ◌∙◌, arith, eqb-true}
 use Rattle.std.proofs.Math.Option.{some}
 use mathlib.Core.List.Memᴰ

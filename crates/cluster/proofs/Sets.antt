@@ -1,5 +1,5 @@
 -- Node sets as bytes: their nodes are in range, and one of no size has none. Assumes nothing.
-use Rattle.std.specs.Prelude.{◌≡◌, refl, Bool, true, false, ℕ, zero, suc, ◌-◌, ◌/◌, ◌%◌, ◌^◌, ◌≤◌, ◌<◌, eqb}
+use Rattle.std.specs.Prelude.{◌≡◌, refl, Bool, true, false, ℕ, zero, suc, ◌/◌, ◌%◌, ◌^◌, ◌≤◌, ◌<◌, eqb}
 use Rattle.std.proofs.Common.{ap, sym, ◌∙◌, true≢false, arith, pow_mono, pow-suc, div-one, ne_eqb, ltb-true}
 use Rattle.std.proofs.Math.Nat.{pow-succ', div-div-eq-div-mul}
 use Rattle.numbers.specs.Nodes.{is_set, has, members}

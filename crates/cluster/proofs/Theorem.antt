@@ -4,7 +4,7 @@ use Rattle.std.specs.Prelude.{◌≡◌, refl, ◌↔◌, Bool, true, false, ◌
 use Rattle.std.proofs.Common.{ap, sym, subst, ◌∙◌}
 use Rattle.numbers.specs.Nodes.{is_node}
 use Rattle.document.specs.Tables.{fresh, table_bytes, table_of}
-use Rattle.document.specs.Sound.{sound, sound_bytes}
+use Rattle.document.specs.Sound.{sound_bytes}
 use Rattle.document.specs.Outcomes.{value_of}
 use Rattle.document.specs.Calls.{pending}
 use Rattle.cluster.specs.Cluster.{Node, Cluster, Later, idle, Started, Quiet, Demand3, Agreed, Convergence}

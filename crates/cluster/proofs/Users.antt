@@ -7,7 +7,7 @@ use mathlib.Core.List.{List, [], ◌∷◌, ◌++◌}
 use Prim.Native.Nat.{ℕ, ◌+◌, ◌≤◌, ◌<◌}
 use Rattle.names.specs.Names.{name_from}
 use Rattle.numbers.specs.Nodes.{has, join}
-use Rattle.numbers.specs.Ids.{id_of, clock_of, issuer}
+use Rattle.numbers.specs.Ids.{id_of, clock_of}
 use Rattle.numbers.specs.Laws.{maker_of, count_of}
 use Rattle.records.specs.declared.head.Head.{Head}
 use Rattle.records.specs.Heads.{root_head}
@@ -21,7 +21,7 @@ use Rattle.views.specs.Puts.{head_id, head_own, head_put_same, head_put_other, p
 use Rattle.views.specs.Sets.{has_join_left}
 use Rattle.views.specs.Settles.{head_settle, settle_entries, settle_nodes, settle_highest}
 use Rattle.cluster.specs.Cluster.{Node, State, state_of, stated, placed, creates, renames, draws}
-use Rattle.cluster.proofs.Ranks.{rank_o, rank, mark, held, hold_held}
+use Rattle.cluster.proofs.Ranks.{rank_o, rank, hold_held}
 use Rattle.cluster.proofs.Invariants.{World, Facts, Remembers, Inv}
 use Rattle.cluster.proofs.Facts.{facts_at}
 use Rattle.cluster.proofs.Adds.{Up, up_put}

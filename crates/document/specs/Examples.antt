@@ -1,30 +1,23 @@
 -- The examples P1 to P12 of document 01 as one table: each row has what the definitions give and what the document says.
 -- Every example goes through the calls, or the steps, that it is about. `proofs/Examples` has that every row agrees.
 -- Assumes nothing.
-use Rattle.std.specs.Prelude.{◌≡◌, refl, Bool, true, ℕ, zero, suc, ◌+◌, length}
+use Rattle.std.specs.Prelude.{Bool, ℕ, zero, suc, ◌+◌, length}
 use Rattle.std.proofs.Math.Option.{Option, some, none}
-use mathlib.Core.List.{List, [], ◌∷◌, ◌++◌, map, Memᴰ}
-use Rattle.codec.specs.Bytes.{chunk, le, bytes_of, same_bytes, zeros}
-use Rattle.codec.specs.Laws.{same_eq}
-use Rattle.codec.specs.Lists.{every, every_member}
-use Rattle.names.specs.Names.{same_name, is_text, is_name, name_from}
-use Rattle.numbers.specs.Nodes.{has, single, join, without}
-use Rattle.numbers.specs.Ids.{id_of, is_made, is_id, is_stamp, is_version}
+use mathlib.Core.List.{List, [], ◌∷◌, ◌++◌, map}
+use Rattle.codec.specs.Bytes.{same_bytes, zeros}
+use Rattle.names.specs.Names.{name_from}
+use Rattle.numbers.specs.Ids.{id_of}
 use Rattle.records.specs.declared.head.Head.{Head}
 use Rattle.records.specs.declared.entry.Entry.{Entry}
-use Rattle.records.specs.Heads.{head_bytes, head_of, head_in_range, head_fits, is_root, is_ordinary, root_head}
-use Rattle.records.specs.Entries.{entry_bytes, entry_of, entry_in_range, entry_fits}
-use Rattle.messages.specs.Acknowledgements.{ack_bytes, ack_of, ack_in_range, ack_fits}
-use Rattle.messages.specs.PushHeaders.{push_bytes, push_of, push_in_range, push_fits}
+use Rattle.records.specs.Heads.{root_head}
+use Rattle.messages.specs.Acknowledgements.{ack_bytes}
 use Rattle.slots.specs.declared.replica.Replica.{Replica}
 use Rattle.slots.specs.declared.listed.Listed.{Listed}
-use Rattle.document.specs.Tables.{Table, with_highest, fresh, first, find, entries_of, rows, slots_from, every_slot}
-use Rattle.document.specs.Sound.{distinct}
-use Rattle.document.specs.Steps.{join_into, put_head, set_by, join_all, odd_all, issue, same_entries, settle_all, settle, relive, make_live, too_many, past_end}
-use Rattle.document.specs.Messages.{message_bytes, message_of, message_in_range, chained, hangs_together, read_push, read_ack, chain_up, push_from}
-use Rattle.document.specs.Receive.{highest, step_a, step_b, step_c, set_above, step_f, taken, received, odd}
-use Rattle.document.specs.Outcomes.{Outcome, refused, done, number_of, value_of, judged}
-use Rattle.document.specs.Calls.{name_taken, created, create_in, spread_to, spread_in, push_in, take_in, receive_in, clear, clear_in, if_ack, start}
+use Rattle.document.specs.Tables.{Table, with_highest, fresh, find, entries_of}
+use Rattle.document.specs.Steps.{join_into}
+use Rattle.document.specs.Messages.{message_bytes, read_ack}
+use Rattle.document.specs.Outcomes.{Outcome, refused, done, number_of, value_of}
+use Rattle.document.specs.Calls.{create_in, spread_in, push_in, receive_in, clear_in, if_ack, start}
 
 pub record Row : Type 0 where
   pub got : List ℕ

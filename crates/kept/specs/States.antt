@@ -20,7 +20,7 @@ use Rattle.document.specs.Calls.{new_head}
 use Rattle.views.specs.Lists.{no_both, some_only, not_none, same?}
 use Rattle.views.specs.Puts.{head_id, head_own, dead_not}
 use Rattle.views.specs.Sets.{is_set_single}
-use Rattle.views.specs.Issues.{made, clock_above}
+use Rattle.views.specs.Issues.{clock_above}
 use Rattle.views.specs.Sounds.{Place, HeadsFit, OwnBelowNext, Sound, root_only}
 use Rattle.kept.specs.Rules.{UnderLive, OverDead}
 use Rattle.kept.specs.Firm.{Base, NewState}

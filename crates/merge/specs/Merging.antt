@@ -31,7 +31,7 @@ use Rattle.kept.specs.MessageFacts.{MessageSays, TableAgrees, message_says, tabl
 use Rattle.kept.specs.ReceiveAbove.{steady_B}
 use Rattle.kept.specs.ReceiveFirst.{after_C}
 use Rattle.kept.specs.ReceiveJoins.{fine_joins, after_E, shown_E}
-use Rattle.steps.specs.Standing.{stands, sound_stands}
+use Rattle.steps.specs.Standing.{sound_stands}
 use Rattle.steps.specs.Room.{Room, sound_room}
 use Rattle.steps.specs.Grown.{Grown}
 use Rattle.steps.specs.States.{Held, Made, many_all, Housed, made_past}

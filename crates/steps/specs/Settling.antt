@@ -7,7 +7,7 @@ use Rattle.std.proofs.Math.Bool.{true, false}
 use Rattle.std.proofs.Math.Option.{Option, some, none}
 use mathlib.Core.List.Memᴰ
 use mathlib.Core.List.{List, [], ◌∷◌}
-use Prim.Native.Nat.{ℕ, zero, suc, ◌+◌, ◌-◌, ◌^◌, ◌≤◌, ◌<◌}
+use Prim.Native.Nat.{ℕ, zero, suc, ◌+◌, ◌^◌, ◌≤◌, ◌<◌}
 use Rattle.std.proofs.Math.Nat.{sub-zero}
 use Rattle.std.proofs.Math.ListN.{length}
 use Rattle.codec.specs.Bytes.{chunk, splice, u32_at, same_bytes, Bytes}
@@ -28,7 +28,7 @@ use Rattle.document.specs.Tables.{Table, find, head_of?, head_of, entries_of, sl
 use Rattle.document.specs.Sound.{ids_unique}
 use Rattle.document.specs.Steps.{same_head, same_entry, same_entries, unchanged, raised, settle_all, settle}
 use Rattle.document.specs.Layouts.{replica_head, listed_entry}
-use Rattle.document.specs.Reading.{few_replicas, few_entries}
+use Rattle.document.specs.Reading.{few_replicas}
 use Rattle.views.specs.Lists.{In}
 use Rattle.views.specs.Puts.{find_member}
 use Rattle.views.specs.Settles.{settled, settled_head, settled_kept, settled_raised, same_head_law, head_same, same_entry_law, entry_same}

@@ -3,7 +3,7 @@
 use mathlib.Core.Path.{refl, ap, sym, ◌∙◌}
 use mathlib.Core.Bool.{not}
 use native.Mathlib.Omega.{arith}
-use Rattle.codec.specs.Lists.{and_stop, and_go, failed, passed}
+use Rattle.codec.specs.Lists.{and_stop, and_go}
 use Rattle.document.specs.Reading.{sound_length}
 use Rattle.judge.specs.Judging.{counted, counted_least, odd_judged}
 use Rattle.judge.proofs.is_odd.Goals as goal

@@ -2,7 +2,6 @@
 use native.Mathlib.Omega.{arith}
 use mathlib.Core.Path.{refl}
 use Rattle.codec.specs.Bytes.{Bytes}
-use Rattle.codec.specs.Lists.{passed, failed}
 use Rattle.steps.specs.Standing.{never}
 use Rattle.merge.specs.Merging.{merge_works, merge_own, merge_sized, merge_long, heads_full, heads_works, heads_held, entries_full, entries_works, entries_base, entries_shown, entries_clock, merge_made, merge_grown}
 use mathlib.Core.Path.{sym, ◌∙◌}

@@ -3,7 +3,7 @@ use mathlib.Core.Path.{ap, sym, ◌∙◌}
 use Prim.Native.Nat.{ℕ}
 use native.Mathlib.Omega.{arith}
 use borrow.Author.Rules.{rules as known}
-use Rattle.codec.specs.Lists.{and_stop, and_go, passed, failed}
+use Rattle.codec.specs.Lists.{and_stop, and_go}
 use Rattle.document.specs.Tables.{replicas_used}
 use Rattle.document.specs.Sound.{sound_bytes, rules}
 use Rattle.table.specs.Ranges.{range_length, range_nodes}

@@ -1,8 +1,8 @@
 -- `changes::create::are_good` meets its contract: test by test. Assumes nothing.
 use native.Mathlib.Omega.{arith}
-use Prim.Native.Nat.{◌-◌, ◌^◌}
+use Prim.Native.Nat.{◌^◌}
 use borrow.Author.Tests.{lt-ltb, le-ltb}
-use Rattle.codec.specs.Lists.{and_stop, and_go, passed, failed}
+use Rattle.codec.specs.Lists.{and_stop, and_go}
 use mathlib.Core.Path.{sym, ◌∙◌}
 use Rattle.changes.proofs.create.are_good.Goals as goal
 

@@ -1,10 +1,8 @@
 -- `changes::create::create` meets its contract. Assumes nothing.
 use native.Mathlib.Omega.{arith}
 use mathlib.Core.Path.{refl, ap, sym, ◌∙◌}
-use Prim.Native.Nat.{◌-◌}
 use Rattle.answers.specs.Answers.{refuses, instead}
 use Rattle.document.specs.Tables.{table_of}
-use Rattle.codec.specs.Lists.{passed, failed}
 use mathlib.Core.Option.{some}
 use Rattle.names.specs.declared.Name.{Name}
 use Rattle.names.specs.Names.{name_from}

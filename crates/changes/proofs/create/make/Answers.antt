@@ -1,7 +1,6 @@
 -- `changes::create::make` meets its contract. Assumes nothing.
 use native.Mathlib.Omega.{arith}
 use mathlib.Core.Path.{ap, ◌∙◌}
-use Prim.Native.Nat.{◌-◌}
 use Rattle.answers.specs.Answers.{instead}
 use Rattle.steps.specs.Standing.{sound_stands}
 use Rattle.numbers.specs.Nodes.{join, single}

@@ -1,7 +1,5 @@
 -- `changes::finish::change` meets its contract: no room, or the state stands in the copy. Assumes nothing.
 use mathlib.Core.Path.{refl, ap, ◌∙◌}
-use Prim.Native.Nat.{◌-◌}
-use Rattle.codec.specs.Lists.{passed, failed}
 use Rattle.document.specs.Outcomes.{Outcome, table_after}
 use Rattle.answers.specs.Answers.{answer_of, refuses}
 use Rattle.changes.specs.Finishing.{change_refused, change_next, change_last}

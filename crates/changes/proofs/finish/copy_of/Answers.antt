@@ -1,7 +1,6 @@
 -- `changes::finish::copy_of` meets its contract. Assumes nothing.
 use native.Mathlib.Omega.{arith}
 use mathlib.Core.Path.{◌∙◌}
-use Prim.Native.Nat.{◌-◌}
 use Rattle.names.specs.Names.{splice_whole}
 use Rattle.changes.proofs.finish.copy_of.Goals as goal
 

@@ -1,8 +1,6 @@
 -- `changes::finish::finish` meets its contract: the clock, the count, the versions, and the copy comes back. Assumes nothing.
 use native.Mathlib.Omega.{arith}
 use mathlib.Core.Path.{◌≡◌, refl, ap, ◌∙◌}
-use Prim.Native.Nat.{◌-◌}
-use Rattle.codec.specs.Lists.{passed, failed}
 use Rattle.slots.specs.declared.table_header.TableHeader.{TableHeader}
 use Rattle.document.specs.Tables.{header_of, table_of}
 use Rattle.answers.specs.Answers.{refuses, does}

@@ -1,13 +1,9 @@
 -- `changes::look::is_any_shown` meets its contract. The loop's invariant: one passes exactly if one from i on does. Assumes nothing.
-use native.Mathlib.Omega.{arith}
-use mathlib.Core.Path.{◌≡◌, refl, sym, ◌∙◌}
+use mathlib.Core.Path.{◌≡◌}
 use Prim.Native.Nat.{ℕ, ◌-◌, ◌≤◌}
-use Rattle.codec.specs.Lists.{or_stop, or_go}
 use Rattle.document.specs.Tables.{table_of, entry_in}
 use Rattle.document.specs.Calls.{any_shown}
-use Rattle.changes.specs.Looking.{any_slot, any_step, any_none, is_shown_in, shown_any}
-use borrow.Author.Rules.{rules}
-use Rattle.document.specs.Reading.{few_entries}
+use Rattle.changes.specs.Looking.{any_slot, is_shown_in}
 use Rattle.changes.proofs.look.is_any_shown.Given as goal
 
 abbrev pub invariant-loop-i : goal.invariant-loop-i

@@ -1,11 +1,8 @@
 -- `changes::look::is_child_live` meets its contract. The loop's invariant: one passes exactly if one from i on does. Assumes nothing.
 use native.Mathlib.Omega.{arith}
-use mathlib.Core.Path.{◌≡◌, refl, sym, ◌∙◌}
-use Prim.Native.Nat.{ℕ, ◌-◌, ◌≤◌}
+use mathlib.Core.Path.{refl, sym, ◌∙◌}
 use Rattle.codec.specs.Lists.{or_stop, or_go}
-use Rattle.document.specs.Tables.{table_of, replica_in}
-use Rattle.document.specs.Calls.{live_child}
-use Rattle.changes.specs.Looking.{any_slot, any_step, any_none, is_child_of, child_any}
+use Rattle.changes.specs.Looking.{any_step, any_none, child_any}
 use borrow.Author.Rules.{rules}
 use Rattle.document.specs.Reading.{few_replicas}
 use Rattle.changes.proofs.look.is_child_live.Goals as goal

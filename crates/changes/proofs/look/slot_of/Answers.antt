@@ -1,5 +1,4 @@
 -- `changes::look::slot_of` meets its contract. Assumes nothing.
-use Prim.Native.Nat.{◌-◌}
 use Rattle.changes.specs.Looking.{slot_large, slot_small}
 use Rattle.changes.proofs.look.slot_of.Goals as goal
 

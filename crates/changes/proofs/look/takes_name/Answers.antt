@@ -1,6 +1,6 @@
 -- `changes::look::takes_name` meets its contract: shown in the directory, then the name. Assumes nothing.
 use mathlib.Core.Path.{ap, sym, ◌∙◌}
-use Rattle.codec.specs.Lists.{and_stop, and_go, failed, passed}
+use Rattle.codec.specs.Lists.{and_stop, and_go}
 use Rattle.names.specs.declared.Name.{Name}
 use Rattle.names.specs.Names.{same_name}
 use Rattle.document.specs.Tables.{entry_in}

@@ -1,6 +1,5 @@
 -- `changes::remove::remove_held` meets its contract: a live entry or a live child stands in the way. Assumes nothing.
 use mathlib.Core.Path.{sym, ◌∙◌}
-use Prim.Native.Nat.{◌-◌}
 use Rattle.document.specs.Reading.{sound_length}
 use Rattle.answers.specs.Answers.{refuses, instead}
 use Rattle.changes.specs.Killing.{remove_7, remove_8, remove_root, remove_shown, remove_child, remove_kills}

@@ -1,6 +1,5 @@
 -- `changes::rename::move_to` meets its contract. Assumes nothing.
 use native.Mathlib.Omega.{arith}
-use Prim.Native.Nat.{◌-◌}
 use Rattle.answers.specs.Answers.{instead}
 use Rattle.steps.specs.Standing.{sound_stands}
 use Rattle.changes.specs.Working.{copy_stands, copy_clock}

@@ -1,11 +1,9 @@
 -- `changes::rename::rename` meets its contract. Assumes nothing.
 use native.Mathlib.Omega.{arith}
 use mathlib.Core.Path.{ap, sym, ◌∙◌}
-use Prim.Native.Nat.{◌-◌}
 use Rattle.answers.specs.Answers.{refuses, instead}
 use Rattle.document.specs.Tables.{table_of}
 use mathlib.Core.Option.{some}
-use Rattle.codec.specs.Lists.{passed, failed}
 use Rattle.names.specs.declared.Name.{Name}
 use Rattle.names.specs.Names.{is_name}
 use Rattle.document.specs.Reading.{sound_length}

@@ -1,6 +1,5 @@
 -- `changes::rename::rename_held` meets its contract. Assumes nothing.
 use mathlib.Core.Path.{sym, ◌∙◌}
-use Prim.Native.Nat.{◌-◌}
 use Rattle.answers.specs.Answers.{refuses, instead}
 use Rattle.document.specs.Tables.{table_of}
 use Rattle.document.specs.Reading.{sound_length}

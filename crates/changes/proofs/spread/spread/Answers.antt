@@ -1,10 +1,9 @@
 -- `changes::spread::spread` meets its contract. Assumes nothing.
 use native.Mathlib.Omega.{arith}
 use mathlib.Core.Path.{ap, sym, ◌∙◌}
-use Prim.Native.Nat.{ℕ, ◌-◌}
+use Prim.Native.Nat.{ℕ}
 use Rattle.answers.specs.Answers.{refuses, instead}
 use Rattle.document.specs.Tables.{table_of}
-use Rattle.codec.specs.Lists.{passed, failed}
 use Rattle.numbers.specs.Nodes.{is_set}
 use Rattle.document.specs.Calls.{spread_in}
 use Rattle.document.specs.Reading.{sound_length}

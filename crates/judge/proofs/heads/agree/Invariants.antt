@@ -1,12 +1,8 @@
 -- `judge::heads::agree` meets its contract. The loop's invariant: all agree exactly if those from j on do.
 -- Assumes nothing.
-use mathlib.Core.Path.{◌≡◌, refl, ap, sym, ◌∙◌}
+use mathlib.Core.Path.{◌≡◌}
 use Prim.Native.Nat.{ℕ, ◌-◌, ◌≤◌}
-use native.Mathlib.Omega.{arith}
-use native.Mathlib.Nat.{sub-zero}
-use Rattle.codec.specs.Lists.{and_stop, and_go, failed, passed}
 use Rattle.document.specs.Tables.{every_slot, table_of}
-use Rattle.table.specs.Slots.{slots_step, slots_none}
 use Rattle.judge.specs.Judging.{head_agrees, heads_agree}
 use Rattle.document.specs.ReadingMessages.{head_in}
 use Rattle.judge.proofs.heads.agree.Given as goal

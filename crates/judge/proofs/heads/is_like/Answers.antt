@@ -2,7 +2,7 @@
 use mathlib.Core.Path.{ap, sym, ◌∙◌}
 use mathlib.Core.Bool.{not}
 use borrow.Author.Tests.{eq-eqb, ne_eqb}
-use Rattle.codec.specs.Lists.{and_stop, and_go, or_stop, or_go, failed, passed}
+use Rattle.codec.specs.Lists.{and_stop, and_go, or_stop, or_go}
 use Rattle.judge.specs.Deciding.{like_tests}
 use Rattle.judge.proofs.heads.is_like.Goals as goal
 

@@ -1,11 +1,8 @@
 -- `judge::joins::above_agree` meets its contract. The loop's invariant: all agree exactly if those from j on do.
 -- Assumes nothing.
-use mathlib.Core.Path.{◌≡◌, refl, ap, sym, ◌∙◌}
+use mathlib.Core.Path.{◌≡◌}
 use Prim.Native.Nat.{ℕ, ◌-◌, ◌≤◌}
-use native.Mathlib.Omega.{arith}
-use Rattle.codec.specs.Lists.{and_stop, and_go, failed, passed}
 use Rattle.document.specs.Tables.{every_slot, table_of}
-use Rattle.table.specs.Slots.{slots_step, slots_none}
 use Rattle.judge.specs.Judging.{made_agrees, above_agree}
 use Rattle.document.specs.ReadingMessages.{head_in}
 use Rattle.judge.proofs.joins.above_agree.Given as goal

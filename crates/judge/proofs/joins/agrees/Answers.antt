@@ -1,17 +1,7 @@
 -- `judge::joins::agrees` meets its contract: what the join comes to is at odds, or one of the other cases. Assumes
 -- nothing.
-use mathlib.Core.Path.{◌≡◌, ap}
-use mathlib.Core.List.{[], ◌∷◌}
-use mathlib.Core.Logic.{⊎_elim}
-use Prim.Native.Nat.{ℕ}
-use native.Mathlib.Omega.{arith}
-use types.Run.{OneOf}
-use denote.Enum.Declared.{tag_of}
 use Rattle.document.specs.Tables.{table_of}
 use Rattle.document.specs.Steps.{odd_join}
-use Rattle.steps.specs.contracts.join.Joined.{the_type}
-use Rattle.steps.specs.declared.join.Joined.{Joined}
-use Rattle.steps.specs.declared.join.Joined.TheVariants.{AtOdds}
 use Rattle.judge.specs.Deciding.{join_odd, join_even}
 use Rattle.judge.proofs.joins.agrees.Goals as goal
 

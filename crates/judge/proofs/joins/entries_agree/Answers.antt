@@ -1,19 +1,15 @@
 -- `judge::joins::entries_agree` meets its contract. The loop's invariant: all agree exactly if those from j on do.
 -- Assumes nothing.
-use mathlib.Core.Path.{◌≡◌, refl, ap, sym, ◌∙◌}
+use mathlib.Core.Path.{refl, ap, sym, ◌∙◌}
 use mathlib.Core.Bool.{not}
-use Prim.Native.Nat.{ℕ, ◌-◌, ◌≤◌}
 use native.Mathlib.Omega.{arith}
 use native.Mathlib.Nat.{sub-zero}
-use Rattle.codec.specs.Lists.{and_stop, and_go, failed, passed}
+use Rattle.codec.specs.Lists.{and_stop, and_go}
 use Rattle.records.specs.declared.entry.Entry.{Entry}
-use Rattle.records.specs.Entries.{entry_at}
-use Rattle.document.specs.Tables.{every_slot, table_of}
+use Rattle.document.specs.Tables.{table_of}
 use Rattle.document.specs.Steps.{odd_join}
-use Rattle.document.specs.Messages.{entry_spot}
 use Rattle.document.specs.Receive.{listed_in}
 use Rattle.table.specs.Slots.{slots_step, slots_none}
-use Rattle.judge.specs.Judging.{entries_agree}
 use Rattle.judge.proofs.joins.entries_agree.Goals as goal
 
 pub loop-j-init : goal.loop-j-init

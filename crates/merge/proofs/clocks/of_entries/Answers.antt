@@ -1,10 +1,8 @@
 -- `merge::clocks::of_entries` meets its contract. The loop's invariant: the clocks that are left lead to the answer.
 -- Assumes nothing.
 use native.Mathlib.Omega.{arith}
-use mathlib.Core.Path.{◌≡◌, ap, sym, ◌∙◌}
-use Prim.Native.Nat.{ℕ, ◌+◌, ◌-◌, ◌*◌, ◌≤◌}
-use Rattle.document.specs.Tables.{slots_from}
-use Rattle.document.specs.Receive.{highest}
+use mathlib.Core.Path.{ap, sym, ◌∙◌}
+use Prim.Native.Nat.{ℕ, ◌+◌, ◌*◌}
 use Rattle.merge.specs.Clocks.{entry_stamp, high_start, high_next, high_end}
 use Rattle.records.specs.declared.entry.Entry.{Entry}
 use Rattle.records.specs.Entries.{entry_at}

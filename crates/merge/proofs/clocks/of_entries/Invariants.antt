@@ -1,13 +1,10 @@
 -- `merge::clocks::of_entries` meets its contract. The loop's invariant: the clocks that are left lead to the answer.
 -- Assumes nothing.
-use native.Mathlib.Omega.{arith}
-use mathlib.Core.Path.{◌≡◌, ap, sym, ◌∙◌}
-use Prim.Native.Nat.{ℕ, ◌+◌, ◌-◌, ◌*◌, ◌≤◌}
+use mathlib.Core.Path.{◌≡◌}
+use Prim.Native.Nat.{◌-◌, ◌≤◌}
 use Rattle.document.specs.Tables.{slots_from}
 use Rattle.document.specs.Receive.{highest}
-use Rattle.merge.specs.Clocks.{entry_stamp, high_start, high_next, high_end}
-use Rattle.records.specs.declared.entry.Entry.{Entry}
-use Rattle.records.specs.Entries.{entry_at}
+use Rattle.merge.specs.Clocks.{entry_stamp}
 use Rattle.merge.proofs.clocks.of_entries.Given as goal
 
 abbrev pub invariant-loop-i : goal.invariant-loop-i

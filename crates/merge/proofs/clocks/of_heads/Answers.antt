@@ -1,10 +1,7 @@
 -- `merge::clocks::of_heads` meets its contract. The loop's invariant: the clocks that are left lead to the answer.
 -- Assumes nothing.
 use native.Mathlib.Omega.{arith}
-use mathlib.Core.Path.{◌≡◌, ap, sym, ◌∙◌}
-use Prim.Native.Nat.{◌-◌, ◌≤◌}
-use Rattle.document.specs.Tables.{slots_from}
-use Rattle.document.specs.Receive.{highest}
+use mathlib.Core.Path.{ap, sym, ◌∙◌}
 use Rattle.merge.specs.Clocks.{head_stamp, high_start, high_next, high_end}
 use Rattle.records.specs.declared.head.Head.{Head}
 use Rattle.merge.proofs.clocks.of_heads.Goals as goal

@@ -1,12 +1,10 @@
 -- `merge::clocks::of_heads` meets its contract. The loop's invariant: the clocks that are left lead to the answer.
 -- Assumes nothing.
-use native.Mathlib.Omega.{arith}
-use mathlib.Core.Path.{◌≡◌, ap, sym, ◌∙◌}
+use mathlib.Core.Path.{◌≡◌}
 use Prim.Native.Nat.{◌-◌, ◌≤◌}
 use Rattle.document.specs.Tables.{slots_from}
 use Rattle.document.specs.Receive.{highest}
-use Rattle.merge.specs.Clocks.{head_stamp, high_start, high_next, high_end}
-use Rattle.records.specs.declared.head.Head.{Head}
+use Rattle.merge.specs.Clocks.{head_stamp}
 use Rattle.merge.proofs.clocks.of_heads.Given as goal
 
 abbrev pub invariant-loop-i : goal.invariant-loop-i

@@ -1,7 +1,6 @@
 -- `merge::entries::join_all` meets its contract: the message's entries, then those that are set. Assumes nothing.
 use mathlib.Core.Path.{refl}
 use mathlib.Core.List.Memᴰ
-use Rattle.codec.specs.Lists.{passed, failed}
 use Rattle.document.specs.Tables.{table_of}
 use Rattle.document.specs.Messages.{message_of}
 use Rattle.document.specs.Receive.{joined_in, set_in}

@@ -2,7 +2,6 @@
 use native.Mathlib.Omega.{arith}
 use mathlib.Core.Path.{refl, ap, sym, subst}
 use Prim.Native.Nat.{ℕ}
-use Rattle.codec.specs.Lists.{passed, failed}
 use Rattle.messages.specs.declared.push_header.PushHeader.{PushHeader}
 use Rattle.document.specs.Tables.{table_of}
 use Rattle.merge.specs.Entries.{Setting, setting_start, setting_turn, setting_full, setting_end, setting_held_now}

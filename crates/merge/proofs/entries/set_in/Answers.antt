@@ -2,7 +2,6 @@
 use native.Mathlib.Omega.{arith}
 use mathlib.Core.Path.{refl}
 use mathlib.Core.List.Memᴰ
-use Rattle.codec.specs.Lists.{passed, failed}
 use Rattle.document.specs.Tables.{head_of, table_of}
 use Rattle.document.specs.Messages.{message_of}
 use Rattle.document.specs.Receive.{set_above, set_if_taken}

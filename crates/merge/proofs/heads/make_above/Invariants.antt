@@ -1,11 +1,6 @@
 -- `merge::heads::make_above` meets its contract. The loop's invariant: the heads from j on are through. Assumes nothing.
-use native.Mathlib.Omega.{arith}
-use mathlib.Core.Path.{refl, ap, sym, subst}
-use Prim.Native.Nat.{ℕ}
-use Rattle.codec.specs.Lists.{passed, failed}
-use Rattle.messages.specs.declared.push_header.PushHeader.{PushHeader}
 use Rattle.document.specs.Tables.{table_of}
-use Rattle.merge.specs.Heads.{Making, making_start, making_turn, making_full, making_end}
+use Rattle.merge.specs.Heads.{Making}
 use Rattle.merge.proofs.heads.make_above.Given as goal
 
 abbrev pub invariant-loop-j : goal.invariant-loop-j

@@ -2,7 +2,6 @@
 use native.Mathlib.Omega.{arith}
 use mathlib.Core.Path.{ap, sym, ◌∙◌}
 use mathlib.Core.Option.{Option, some}
-use Rattle.numbers.specs.Nodes.{join}
 use Rattle.records.specs.declared.head.Head.{Head}
 use Rattle.document.specs.Tables.{table_of}
 use Rattle.document.specs.Steps.{with_holders}

@@ -1,6 +1,5 @@
 -- `merge::heads::take_heads` meets its contract: one step after the other. Assumes nothing.
 use mathlib.Core.Path.{refl}
-use Rattle.codec.specs.Lists.{passed, failed}
 use Rattle.merge.specs.Clocks.{clocks_works}
 use Rattle.merge.specs.Heads.{clocks_owned, above_full, above_works, above_owned, above_then}
 use mathlib.Core.Path.{sym, ◌∙◌}

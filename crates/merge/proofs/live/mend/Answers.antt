@@ -2,7 +2,7 @@
 use native.Mathlib.Omega.{arith}
 use mathlib.Core.Path.{ap, sym, ◌∙◌}
 use mathlib.Core.Option.{some}
-use borrow.Author.Tests.{eq-eqb, ne_eqb, not-true, not-false}
+use borrow.Author.Tests.{eq-eqb, ne_eqb}
 use Rattle.table.specs.Rules.{found_head, not_found}
 use Rattle.merge.specs.Live.{mend_none, mend_dead, mend_live, mend_low, mend_lights, mend_made}
 use Rattle.merge.proofs.live.mend.Goals as goal

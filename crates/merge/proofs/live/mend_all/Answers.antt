@@ -2,11 +2,9 @@
 -- Assumes nothing.
 use native.Mathlib.Omega.{arith}
 use mathlib.Core.Path.{refl, sym, ◌∙◌}
-use Prim.Native.Nat.{◌-◌}
-use Rattle.codec.specs.Lists.{passed, failed}
 use Rattle.table.specs.Slots.{id_at}
 use Rattle.merge.specs.Working.{made_as}
-use Rattle.merge.specs.Live.{Mending, mending_start, mending_mends, mending_id, mending_full, mending_turn, mending_end}
+use Rattle.merge.specs.Live.{mending_start, mending_mends, mending_id, mending_full, mending_turn, mending_end}
 use Rattle.merge.proofs.live.mend_all.Goals as goal
 
 pub replicas_used-m-requires : goal.replicas_used-m-requires

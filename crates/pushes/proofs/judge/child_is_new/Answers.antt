@@ -2,9 +2,7 @@
 -- from j
 -- on has them. Assumes nothing.
 use mathlib.Core.Path.{◌≡◌, refl, ap, sym, ◌∙◌}
-use mathlib.Core.Bool.{Bool, not}
-use mathlib.Core.List.{List}
-use Prim.Native.Nat.{ℕ, ◌-◌, ◌≤◌}
+use mathlib.Core.Bool.{not}
 use native.Mathlib.Nat.{sub-zero}
 use native.Mathlib.Omega.{arith}
 use borrow.Author.Rules.{rules}
@@ -12,7 +10,7 @@ use Rattle.codec.specs.Lists.{and_stop, and_go}
 use Rattle.document.specs.Tables.{every_slot}
 use Rattle.document.specs.Messages.{same_child_name}
 use Rattle.table.specs.Slots.{slots_step, slots_none}
-use Rattle.pushes.specs.Judging.{entry_in, child_new, is_same_law}
+use Rattle.pushes.specs.Judging.{entry_in, is_same_law}
 use Rattle.pushes.proofs.judge.child_is_new.Invariants.{other}
 use Rattle.pushes.proofs.judge.child_is_new.Goals as goal
 

@@ -1,18 +1,13 @@
 -- `pushes::judge::child_is_new` meets its contract. The loop's invariant: child and name are new exactly if no entry
 -- from j
 -- on has them. Assumes nothing.
-use mathlib.Core.Path.{◌≡◌, refl, ap, sym, ◌∙◌}
+use mathlib.Core.Path.{◌≡◌}
 use mathlib.Core.Bool.{Bool, not}
 use mathlib.Core.List.{List}
 use Prim.Native.Nat.{ℕ, ◌-◌, ◌≤◌}
-use native.Mathlib.Nat.{sub-zero}
-use native.Mathlib.Omega.{arith}
-use borrow.Author.Rules.{rules}
-use Rattle.codec.specs.Lists.{and_stop, and_go}
 use Rattle.document.specs.Tables.{every_slot}
 use Rattle.document.specs.Messages.{same_child_name}
-use Rattle.table.specs.Slots.{slots_step, slots_none}
-use Rattle.pushes.specs.Judging.{entry_in, child_new, is_same_law}
+use Rattle.pushes.specs.Judging.{entry_in, child_new}
 use Rattle.pushes.proofs.judge.child_is_new.Given as goal
 
 -- entry j has another child or name than entry i

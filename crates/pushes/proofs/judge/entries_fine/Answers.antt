@@ -1,11 +1,10 @@
 -- `pushes::judge::entries_fine` meets its contract. The loop's invariant: each is fine exactly if each from i on is.
 -- Assumes nothing.
-use mathlib.Core.Path.{◌≡◌, refl, ap, sym, ◌∙◌}
-use Prim.Native.Nat.{◌-◌, ◌≤◌}
+use mathlib.Core.Path.{refl, ap, sym, ◌∙◌}
 use native.Mathlib.Nat.{sub-zero}
 use native.Mathlib.Omega.{arith}
 use borrow.Author.Rules.{rules}
-use Rattle.codec.specs.Lists.{and_stop, and_go, passed, failed}
+use Rattle.codec.specs.Lists.{and_stop, and_go}
 use Rattle.document.specs.Tables.{every_slot}
 use Rattle.table.specs.Slots.{slots_step, slots_none}
 use Rattle.pushes.specs.Judging.{entry_fine}

@@ -2,7 +2,7 @@
 use mathlib.Core.Path.{◌≡◌, ap, sym, ◌∙◌}
 use mathlib.Core.Bool.{not}
 use borrow.Author.Tests.{eq-eqb, ne_eqb}
-use Rattle.codec.specs.Lists.{and_stop, and_go, passed, failed}
+use Rattle.codec.specs.Lists.{and_stop, and_go}
 use Rattle.document.specs.Messages.{entry_spot}
 use Rattle.pushes.specs.Judging.{entry_in, entry_fine, child_at}
 use Rattle.pushes.proofs.judge.entry_fine.Goals as goal

@@ -1,6 +1,6 @@
 -- `pushes::judge::first_fine` meets its contract: the range, the holders, the header. Assumes nothing.
 use mathlib.Core.Path.{◌≡◌, ap, ◌∙◌}
-use Rattle.codec.specs.Lists.{and_stop, and_go, passed, failed}
+use Rattle.codec.specs.Lists.{and_stop, and_go}
 use Rattle.records.specs.declared.head.Head.{Head}
 use Rattle.document.specs.ReadingMessages.{head_in}
 use Rattle.pushes.specs.Judging.{held_by, top_fine, first_fine}

@@ -2,7 +2,7 @@
 -- Assumes nothing.
 use mathlib.Core.Path.{◌≡◌, ap, ◌∙◌}
 use Prim.Native.Nat.{◌-◌}
-use Rattle.codec.specs.Lists.{and_stop, and_go, passed, failed}
+use Rattle.codec.specs.Lists.{and_stop, and_go}
 use Rattle.records.specs.declared.head.Head.{Head}
 use Rattle.document.specs.ReadingMessages.{head_in}
 use Rattle.pushes.specs.Judging.{held_by, linked, head_fine}

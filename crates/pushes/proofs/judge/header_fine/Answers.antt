@@ -5,7 +5,7 @@ use mathlib.Core.Bool.{not}
 use lib.Dec.{eqb}
 use lib.ListN.{length}
 use borrow.Author.Tests.{eq-eqb, ne_eqb, le-leb, lt-leb}
-use Rattle.codec.specs.Lists.{and_stop, and_go, passed, failed}
+use Rattle.codec.specs.Lists.{and_stop, and_go}
 use Rattle.messages.specs.declared.push_header.PushHeader.{PushHeader}
 use Rattle.document.specs.Messages.{entry_spot}
 use Rattle.pushes.specs.Judging.{header_fine}

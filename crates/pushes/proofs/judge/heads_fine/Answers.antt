@@ -1,14 +1,11 @@
 -- `pushes::judge::heads_fine` meets its contract. The loop's invariant: each above the first is fine exactly if each
 -- from i on is.
 -- Assumes nothing.
-use mathlib.Core.Path.{◌≡◌, refl, sym, ◌∙◌}
-use Prim.Native.Nat.{◌-◌, ◌≤◌}
+use mathlib.Core.Path.{refl, sym, ◌∙◌}
 use native.Mathlib.Omega.{arith}
 use borrow.Author.Rules.{rules}
-use Rattle.codec.specs.Lists.{and_stop, and_go, passed, failed}
-use Rattle.document.specs.Tables.{every_slot}
+use Rattle.codec.specs.Lists.{and_stop, and_go}
 use Rattle.table.specs.Slots.{slots_step, slots_none}
-use Rattle.pushes.specs.Judging.{head_fine}
 use Rattle.pushes.proofs.judge.heads_fine.Goals as goal
 
 pub loop-i-init : goal.loop-i-init

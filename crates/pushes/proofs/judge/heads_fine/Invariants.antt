@@ -1,13 +1,9 @@
 -- `pushes::judge::heads_fine` meets its contract. The loop's invariant: each above the first is fine exactly if each
 -- from i on is.
 -- Assumes nothing.
-use mathlib.Core.Path.{◌≡◌, refl, sym, ◌∙◌}
+use mathlib.Core.Path.{◌≡◌}
 use Prim.Native.Nat.{◌-◌, ◌≤◌}
-use native.Mathlib.Omega.{arith}
-use borrow.Author.Rules.{rules}
-use Rattle.codec.specs.Lists.{and_stop, and_go, passed, failed}
 use Rattle.document.specs.Tables.{every_slot}
-use Rattle.table.specs.Slots.{slots_step, slots_none}
 use Rattle.pushes.specs.Judging.{head_fine}
 use Rattle.pushes.proofs.judge.heads_fine.Given as goal
 

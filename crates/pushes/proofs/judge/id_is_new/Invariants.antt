@@ -1,19 +1,13 @@
 -- `pushes::judge::id_is_new` meets its contract. The loop's invariant: the id is new exactly if none from j on has it.
 -- Assumes nothing.
-use mathlib.Core.Path.{◌≡◌, refl, ap, sym, ◌∙◌}
+use mathlib.Core.Path.{◌≡◌}
 use mathlib.Core.Bool.{Bool, not}
 use mathlib.Core.List.{List}
 use Prim.Native.Nat.{ℕ, ◌-◌, ◌≤◌}
-use native.Mathlib.Nat.{sub-zero}
-use native.Mathlib.Omega.{arith}
-use borrow.Author.Tests.{eq-eqb, ne_eqb}
-use borrow.Author.Rules.{rules}
-use Rattle.codec.specs.Lists.{and_stop, and_go}
 use Rattle.document.specs.Tables.{every_slot}
 use Rattle.document.specs.Messages.{same_head_id}
 use Rattle.document.specs.ReadingMessages.{head_in}
-use Rattle.table.specs.Slots.{slots_step, slots_none}
-use Rattle.pushes.specs.Judging.{id_new, id_at}
+use Rattle.pushes.specs.Judging.{id_new}
 use Rattle.pushes.proofs.judge.id_is_new.Given as goal
 
 -- head j has another id than head i

@@ -4,7 +4,7 @@ use mathlib.Core.Bool.{true}
 use Prim.Native.Nat.{max}
 use lib.Dec.{eqb}
 use borrow.Author.Tests.{eq-eqb, ne_eqb}
-use Rattle.codec.specs.Lists.{and_stop, and_go, or_stop, or_go, passed, failed}
+use Rattle.codec.specs.Lists.{and_stop, and_go, or_stop, or_go}
 use Rattle.pushes.specs.Judging.{top_fine}
 use Rattle.pushes.proofs.judge.top_fine.Goals as goal
 

@@ -1,20 +1,14 @@
 -- `pushes::write::write_above` meets its contract. The loop's invariant: what was written, with the heads from d on up
 -- behind it, is what is to be written. Assumes nothing.
-use mathlib.Core.Path.{◌≡◌, refl, ap, sym, ◌∙◌}
-use mathlib.Core.List.{List, [], ◌∷◌}
-use Prim.Native.Nat.{ℕ, ◌+◌, ◌*◌, ◌-◌, ◌≤◌, ◌<◌}
-use native.Mathlib.Nat.{sub-zero}
-use native.Mathlib.Omega.{arith}
+use mathlib.Core.Path.{◌≡◌}
+use mathlib.Core.List.{List}
+use Prim.Native.Nat.{ℕ, ◌+◌, ◌*◌, ◌-◌, ◌≤◌}
 use lib.ListN.{length}
 use Rattle.codec.specs.Bytes.{splice}
 use Rattle.records.specs.declared.head.Head.{Head}
-use Rattle.records.specs.Heads.{head_bytes, head_at}
-use Rattle.document.specs.Tables.{replica_slot, rows, table_of}
+use Rattle.records.specs.Heads.{head_bytes}
+use Rattle.document.specs.Tables.{rows, table_of}
 use Rattle.document.specs.Messages.{chain_up}
-use Rattle.document.specs.Rows.{rows_end}
-use Rattle.views.specs.Chains.{chain_root, chain_gone, chain_up_law, chain_end}
-use Rattle.table.specs.Rules.{found_head, not_found}
-use Rattle.pushes.specs.Writing.{head_written}
 use Rattle.pushes.proofs.write.write_above.Given as goal
 
 -- the heads that are left

@@ -1,17 +1,13 @@
 -- `pushes::write::write_entries` meets its contract. The loop's invariant: what was written, with the entries of the
 -- slots
 -- from i on behind it, is what is to be written. Assumes nothing.
-use mathlib.Core.Path.{◌≡◌, refl, ap, sym, ◌∙◌}
-use mathlib.Core.List.{List}
-use Prim.Native.Nat.{ℕ, ◌+◌, ◌*◌, ◌-◌, ◌≤◌}
-use native.Mathlib.Omega.{arith}
-use lib.ListN.{length, length-append}
+use mathlib.Core.Path.{◌≡◌}
+use Prim.Native.Nat.{◌+◌, ◌*◌, ◌-◌, ◌≤◌}
+use lib.ListN.{length}
 use Rattle.codec.specs.Bytes.{splice}
-use Rattle.records.specs.declared.entry.Entry.{Entry}
-use Rattle.records.specs.Entries.{entry_bytes, length_entry_bytes}
+use Rattle.records.specs.Entries.{entry_bytes}
 use Rattle.document.specs.Tables.{rows}
-use Rattle.document.specs.Rows.{rows_written, rows_end}
-use Rattle.pushes.specs.Writing.{listed_at, listed_from, listed_step, listed_end, listed_all}
+use Rattle.pushes.specs.Writing.{listed_from}
 use Rattle.pushes.proofs.write.write_entries.Given as goal
 
 abbrev pub invariant-loop-i : goal.invariant-loop-i

@@ -3,7 +3,6 @@
 use mathlib.Core.Path.{ap, sym, ◌∙◌}
 use Prim.Native.Nat.{ℕ}
 use native.Mathlib.Omega.{arith}
-use Rattle.codec.specs.Lists.{passed, failed}
 use Rattle.messages.specs.Acknowledgements.{ack_of}
 use Rattle.document.specs.Tables.{table_of}
 use Rattle.document.specs.Outcomes.{Outcome, table_after}

@@ -7,7 +7,7 @@ use native.Mathlib.Omega.{arith}
 use lib.Dec.{eqb}
 use borrow.Author.Tests.{eq-eqb, ne_eqb}
 use Rattle.codec.specs.Bytes.{splice}
-use Rattle.codec.specs.Lists.{and_stop, and_go, passed, failed, and_both}
+use Rattle.codec.specs.Lists.{and_stop, and_go, and_both}
 use Rattle.numbers.specs.Nodes.{has, without}
 use Rattle.answers.specs.Answers.{refuses, does}
 use Rattle.service.specs.Acknowledging.{within, slot_refused, slot_cleared, slot_written}

@@ -1,7 +1,7 @@
 -- `service::acknowledged::is_acknowledgement` meets its contract: test by test. Assumes nothing.
 use mathlib.Core.Path.{ap, sym, ◌∙◌}
 use borrow.Author.Tests.{eq-eqb, ne_eqb}
-use Rattle.codec.specs.Lists.{and_stop, and_go, passed, failed}
+use Rattle.codec.specs.Lists.{and_stop, and_go}
 use Rattle.messages.specs.Acknowledgements.{ack_of, ack_in_range}
 use Rattle.service.specs.Acknowledging.{ack_whole}
 use Rattle.service.proofs.acknowledged.is_acknowledgement.Goals as goal

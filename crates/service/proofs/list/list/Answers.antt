@@ -5,7 +5,6 @@ use mathlib.Core.Option.{some}
 use Prim.Native.Nat.{◌<◌}
 use native.Mathlib.Omega.{arith}
 use lib.ListN.{length}
-use Rattle.codec.specs.Lists.{passed, failed}
 use Rattle.records.specs.declared.head.Head.{Head}
 use Rattle.records.specs.Heads.{head_at}
 use Rattle.document.specs.Tables.{head_of, replica_slot, table_of}

@@ -1,13 +1,11 @@
 -- `service::list::shown_in` meets its contract. The loop's invariant: of the first i slots n are shown.
 -- Assumes nothing.
 use mathlib.Core.Path.{◌≡◌, ap, sym, ◌∙◌}
-use Prim.Native.Nat.{ℕ, ◌-◌, ◌≤◌}
+use Prim.Native.Nat.{ℕ}
 use native.Mathlib.Omega.{arith}
 use borrow.Author.Rules.{rules}
-use mathlib.Core.Logic.{⊎_elim}
 use lib.ListN.{length}
 use Rattle.service.specs.Listing.{shown_in, shown_none, length_more, not_shown, is_shown_law}
-use Prim.Native.Nat.{◌-◌, ◌≤◌}
 use Rattle.service.proofs.list.shown_in.Goals as goal
 use Rattle.service.proofs.list.shown_in.Goals.{then-shows, else-shows}
 

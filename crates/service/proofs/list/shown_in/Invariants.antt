@@ -1,12 +1,9 @@
 -- `service::list::shown_in` meets its contract. The loop's invariant: of the first i slots n are shown.
 -- Assumes nothing.
-use mathlib.Core.Path.{◌≡◌, ap, sym, ◌∙◌}
-use Prim.Native.Nat.{ℕ, ◌-◌, ◌≤◌}
-use native.Mathlib.Omega.{arith}
-use borrow.Author.Rules.{rules}
-use mathlib.Core.Logic.{⊎_elim}
+use mathlib.Core.Path.{◌≡◌}
+use Prim.Native.Nat.{◌-◌, ◌≤◌}
 use lib.ListN.{length}
-use Rattle.service.specs.Listing.{shown_in, shown_none, length_more, not_shown, is_shown_law}
+use Rattle.service.specs.Listing.{shown_in}
 use Prim.Native.Nat.{◌-◌, ◌≤◌}
 use Rattle.service.proofs.list.shown_in.Given as goal
 

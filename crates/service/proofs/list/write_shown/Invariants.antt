@@ -1,16 +1,12 @@
 -- `service::list::write_shown` meets its contract. The loop's invariant: what i slots show is written, and n is how
 -- many they show. Assumes nothing.
-use mathlib.Core.Path.{◌≡◌, refl, ap, sym, ◌∙◌}
-use Prim.Native.Nat.{ℕ, ◌+◌, ◌*◌, ◌-◌, ◌≤◌}
-use native.Mathlib.Omega.{arith}
-use borrow.Author.Rules.{rules}
-use mathlib.Core.List.{List}
+use mathlib.Core.Path.{◌≡◌}
+use Prim.Native.Nat.{◌-◌, ◌≤◌}
 use lib.ListN.{length}
 use Rattle.codec.specs.Bytes.{splice}
 use Rattle.records.specs.Entries.{entry_bytes}
 use Rattle.document.specs.Tables.{rows}
-use Rattle.document.specs.Rows.{rows_end}
-use Rattle.service.specs.Listing.{shown_at, shown_in, shown_none, length_more, length_fewer, written_more}
+use Rattle.service.specs.Listing.{shown_in}
 use Rattle.service.proofs.list.write_shown.Given as goal
 
 abbrev pub invariant-loop-i : goal.invariant-loop-i

@@ -4,7 +4,6 @@ use mathlib.Core.Path.{ap, sym, ◌∙◌}
 use Prim.Native.Nat.{◌*◌}
 use native.Mathlib.Omega.{arith}
 use lib.ListN.{length}
-use Rattle.codec.specs.Lists.{passed, failed}
 use Rattle.codec.specs.Bytes.{splice}
 use Rattle.codec.specs.Laws.{splice_none}
 use Rattle.records.specs.declared.entry.Entry.{Entry}

@@ -2,7 +2,6 @@
 use mathlib.Core.Path.{◌≡◌, ap, sym, ◌∙◌}
 use Prim.Native.Nat.{ℕ}
 use borrow.Author.Rules.{rules}
-use Rattle.codec.specs.Lists.{passed, failed}
 use Rattle.document.specs.Tables.{table_of, slots_from, replica_in, replicas_used}
 use Rattle.document.specs.Calls.{pending_sum}
 use Rattle.document.specs.Reading.{sound_length}

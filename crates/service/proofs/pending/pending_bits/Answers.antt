@@ -1,13 +1,11 @@
 -- `service::pending::pending_bits` meets its contract. The loop's invariant: n, and those from i on; n is at most 8 for
 -- each slot passed. Assumes nothing.
 use mathlib.Core.Path.{◌≡◌, ap, sym, ◌∙◌}
-use Prim.Native.Nat.{◌+◌, ◌*◌, ◌-◌, ◌≤◌}
 use native.Mathlib.Omega.{arith}
 use native.Mathlib.Nat.{sub-zero}
 use borrow.Author.Rules.{rules}
 use Rattle.numbers.specs.Nodes.{size}
-use Rattle.document.specs.Tables.{slots_from, replica_in}
-use Rattle.document.specs.Calls.{pending_sum}
+use Rattle.document.specs.Tables.{replica_in}
 use Rattle.service.specs.Pending.{sum_step, sum_none, pending_at, members_most}
 use Rattle.service.proofs.pending.pending_bits.Goals as goal
 

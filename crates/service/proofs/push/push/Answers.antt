@@ -7,8 +7,7 @@ use Prim.Native.Nat.{ℕ, ◌<◌}
 use native.Mathlib.Omega.{arith}
 use lib.Dec.{eqb}
 use lib.ListN.{length}
-use borrow.Author.Tests.{eq-eqb, ne_eqb, not-true}
-use Rattle.codec.specs.Lists.{passed, failed}
+use borrow.Author.Tests.{eq-eqb, ne_eqb}
 use Rattle.numbers.specs.Nodes.{is_node}
 use Rattle.slots.specs.declared.replica.Replica.{Replica}
 use Rattle.document.specs.Tables.{find, replica_in, replicas_used, table_of}

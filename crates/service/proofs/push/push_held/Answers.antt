@@ -4,7 +4,6 @@ use Prim.Native.Nat.{ℕ}
 use native.Mathlib.Omega.{arith}
 use lib.ListN.{length}
 use Rattle.codec.specs.Bytes.{splice}
-use Rattle.codec.specs.Lists.{passed, failed}
 use Rattle.document.specs.Tables.{table_of}
 use Rattle.document.specs.Messages.{message_bytes}
 use Rattle.pushes.specs.Pushing.{size_told, node_told, written}

@@ -1,6 +1,5 @@
 -- `service::receive::merged` meets its contract: no room, or the copy comes back. Assumes nothing.
 use mathlib.Core.Path.{refl}
-use Rattle.codec.specs.Lists.{passed, failed}
 use Rattle.steps.specs.Standing.{sound_stands}
 use Rattle.answers.specs.Answers.{refuses, instead}
 use Rattle.service.specs.Receiving.{merging, merge_full, merge_ends, merge_last}

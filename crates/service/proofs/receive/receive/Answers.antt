@@ -3,7 +3,6 @@ use native.Mathlib.Omega.{arith}
 use mathlib.Core.Path.{ap, sym, ◌∙◌}
 use Prim.Native.Nat.{ℕ}
 use lib.ListN.{length}
-use Rattle.codec.specs.Lists.{passed, failed}
 use Rattle.document.specs.Reading.{sound_length}
 use Rattle.table.specs.Ranges.{nodes_at}
 use Rattle.pushes.specs.Judging.{is_push}

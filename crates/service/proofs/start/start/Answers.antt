@@ -3,7 +3,7 @@
 use mathlib.Core.Path.{sym}
 use native.Mathlib.Omega.{arith}
 use borrow.Author.Tests.{eq-eqb, ne_eqb}
-use Rattle.codec.specs.Lists.{and_stop, and_go, passed, failed, and_both}
+use Rattle.codec.specs.Lists.{and_stop, and_go, and_both}
 use Rattle.numbers.specs.Laws.{size_most, node_most}
 use Rattle.answers.specs.Answers.{refuses, does}
 use Rattle.service.specs.Starting.{start_1, start_2, start_done}

@@ -1,6 +1,5 @@
 -- `service::tree::spread` meets its contract. Assumes nothing.
 use mathlib.Core.Path.{sym}
-use Rattle.codec.specs.Lists.{passed, failed}
 use Rattle.answers.specs.Answers.{not_sound, is_sound, refuses, instead}
 use mathlib.Core.Path.{◌∙◌}
 use Rattle.service.proofs.tree.spread.Goals as goal

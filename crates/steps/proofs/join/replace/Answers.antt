@@ -2,12 +2,8 @@
 use native.Mathlib.Omega.{arith}
 use mathlib.Core.Path.{◌≡◌, refl, ap, sym, ◌∙◌}
 use Prim.Native.Nat.{ℕ}
-use mathlib.Core.List.{List, [], ◌∷◌}
-use mathlib.Core.Logic.{⊎_elim}
-use types.Run.{OneOf}
-use denote.Enum.Declared.{tag_of}
+use mathlib.Core.List.{List}
 use Rattle.slots.specs.declared.listed.Listed.{Listed}
-use Rattle.steps.specs.contracts.join.Joined.{the_type}
 use Rattle.steps.specs.declared.join.Joined.{Joined}
 use Rattle.steps.specs.declared.join.Joined.TheVariants.{Added, Replaced, Same, AtOdds}
 use Rattle.steps.specs.Joining.{slot_of, bytes_after}

@@ -1,17 +1,8 @@
 -- `steps::join::set` meets its contract: added if there is room, or not added. Assumes nothing.
 use borrow.Author.Rules.{rules}
 use native.Mathlib.Omega.{arith}
-use mathlib.Core.Path.{◌≡◌, ap, sym, ◌∙◌}
-use Prim.Native.Nat.{ℕ}
-use mathlib.Core.List.{[], ◌∷◌}
-use mathlib.Core.Logic.{⊎_elim}
-use types.Run.{OneOf}
-use denote.Enum.Declared.{tag_of}
-use Rattle.codec.specs.Lists.{passed, failed}
+use mathlib.Core.Path.{sym, ◌∙◌}
 use Rattle.slots.specs.Listings.{ListedFit}
-use Rattle.steps.specs.contracts.join.Joined.{the_type}
-use Rattle.steps.specs.declared.join.Joined.{Joined}
-use Rattle.steps.specs.declared.join.Joined.TheVariants.{Added}
 use Rattle.steps.specs.Standing.{moved, never}
 use Rattle.steps.specs.Joining.{joins_there, joins_new, room_for}
 use Rattle.steps.proofs.join.set.Goals as goal

@@ -1,8 +1,6 @@
 -- `steps::settle::is_same_law` meets its contract: a new replica, another head, or the entries. Assumes nothing.
 use native.Mathlib.Omega.{arith}
 use mathlib.Core.Path.{◌∙◌}
-use Prim.Native.Nat.{◌-◌}
-use Rattle.codec.specs.Lists.{passed, failed}
 use Rattle.document.specs.Reading.{few_replicas, few_entries}
 use Rattle.steps.specs.Settling.{same_parts, is_new, is_renewed, is_kept}
 use mathlib.Core.Path.{sym}

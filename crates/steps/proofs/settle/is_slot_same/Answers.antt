@@ -1,6 +1,6 @@
 -- `steps::settle::is_slot_same` meets its contract. Assumes nothing.
 use mathlib.Core.Path.{ap, sym, ◌∙◌}
-use Prim.Native.Nat.{ℕ, ◌-◌}
+use Prim.Native.Nat.{ℕ}
 use lib.Dec.{eqb}
 use borrow.Author.Tests.{eq-eqb, ne_eqb, lt-ltb, le-ltb}
 use Rattle.steps.specs.Settling.{same_parts}

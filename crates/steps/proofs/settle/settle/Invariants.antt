@@ -1,13 +1,10 @@
 -- `steps::settle::settle` meets its contract. The loop's invariant: the first i replicas are settled. Assumes nothing.
-use native.Mathlib.Omega.{arith}
-use mathlib.Core.Path.{◌≡◌, refl, sym}
+use mathlib.Core.Path.{◌≡◌}
 use mathlib.Core.Bool.{true}
 use Prim.Native.Nat.{◌-◌, ◌≤◌}
-use Rattle.codec.specs.Lists.{passed, failed}
 use Rattle.document.specs.Tables.{table_of, with_replicas}
-use Rattle.steps.specs.Standing.{Is, never}
-use Rattle.steps.specs.Settling.{settled_to, numbered_to, numbered_none, turn_first, turn_compares, turn_past, turn_done, turn_end}
-use borrow.Author.Rules.{rules}
+use Rattle.steps.specs.Standing.{Is}
+use Rattle.steps.specs.Settling.{settled_to, numbered_to}
 use Rattle.steps.proofs.settle.settle.Given as goal
 
 abbrev pub invariant-loop-i : goal.invariant-loop-i

@@ -1,6 +1,5 @@
 -- `steps::state::make` meets its contract. Assumes nothing.
 use mathlib.Core.Path.{refl}
-use Rattle.codec.specs.Lists.{passed, failed}
 use Rattle.steps.specs.Standing.{stands}
 use Rattle.steps.specs.States.{put_full, then_make}
 use mathlib.Core.Path.{sym, ◌∙◌}

@@ -1,6 +1,5 @@
 -- `steps::state::set_places` meets its contract: the entry at the place, and the strike. Assumes nothing.
 use mathlib.Core.Path.{refl, sym, ◌∙◌}
-use Rattle.codec.specs.Lists.{passed, failed}
 use Rattle.steps.specs.Standing.{stands}
 use Rattle.steps.specs.States.{places_full, places_only, places_both}
 use Rattle.steps.proofs.state.set_places.Goals as goal

@@ -2,7 +2,6 @@
 use native.Mathlib.Omega.{arith}
 use mathlib.Core.Path.{refl, ap, sym, ◌∙◌}
 use mathlib.Core.Option.{some}
-use Rattle.codec.specs.Lists.{passed, failed}
 use Rattle.table.specs.Rules.{found_head, not_found}
 use Rattle.steps.specs.States.{put_full, then_places, then_set}
 use Rattle.steps.proofs.state.state.Goals as goal

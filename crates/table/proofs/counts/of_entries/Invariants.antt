@@ -1,10 +1,7 @@
 -- `table::counts::of_entries` meets its contract. The loop's invariant: the counts are those of the first i entries.
 -- Assumes nothing.
-use mathlib.Core.Path.{subst}
-use Prim.Native.Nat.{ℕ, ◌-◌, ◌≤◌}
-use native.Mathlib.Omega.{arith}
-use borrow.Author.Rules.{rules}
-use Rattle.table.specs.Counts.{Counted, counted_none}
+use Prim.Native.Nat.{◌-◌, ◌≤◌}
+use Rattle.table.specs.Counts.{Counted}
 use Rattle.table.proofs.counts.of_entries.Given as goal
 
 abbrev pub invariant-loop-i : goal.invariant-loop-i

@@ -1,15 +1,12 @@
 -- `table::find::entries_in` meets its contract. The loop's invariant: n, and those from i on. Assumes nothing.
 use mathlib.Core.Path.{◌≡◌, sym, ◌∙◌}
-use Prim.Native.Nat.{◌+◌, ◌-◌, ◌≤◌}
 use native.Mathlib.Omega.{arith}
 use native.Mathlib.Nat.{sub-zero}
 use borrow.Author.Rules.{rules}
 use borrow.Author.Tests.{eq-eqb, ne_eqb}
 use mathlib.Core.Bool.{true, false}
-use mathlib.Core.Logic.{⊎_elim}
-use Rattle.table.specs.Slots.{is_listed_in, entries_in, count_slots, count_step, count_none, directory_at}
+use Rattle.table.specs.Slots.{is_listed_in, count_step, count_none, directory_at}
 use mathlib.Core.Path.{◌≡◌, sym, ◌∙◌}
-use Prim.Native.Nat.{◌+◌, ◌-◌, ◌≤◌}
 use Rattle.table.proofs.find.entries_in.Goals as goal
 use Rattle.table.proofs.find.entries_in.Goals.{then-get_u32-directory, else-get_u32-directory}
 

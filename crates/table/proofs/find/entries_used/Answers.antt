@@ -1,15 +1,11 @@
 -- `table::find::entries_used` meets its contract. The loop's invariant: i slots are used, and those that are used from i on.
 -- Assumes nothing.
-use mathlib.Core.Path.{◌≡◌}
-use Prim.Native.Nat.{◌+◌, ◌*◌, ◌-◌, ◌≤◌}
+use Prim.Native.Nat.{◌+◌, ◌*◌}
 use native.Mathlib.Omega.{arith}
 use borrow.Author.Rules.{rules}
-use Rattle.codec.specs.Lists.{passed, failed}
 use Rattle.records.specs.Entries.{entry_mark}
-use Rattle.document.specs.Tables.{entries_used, used}
 use Rattle.table.specs.Slots.{used_step, used_none}
-use mathlib.Core.Path.{◌≡◌}
-use Prim.Native.Nat.{◌+◌, ◌*◌, ◌-◌, ◌≤◌}
+use Prim.Native.Nat.{◌+◌, ◌*◌}
 use mathlib.Core.Path.{sym, ◌∙◌}
 use Rattle.table.proofs.find.entries_used.Goals as goal
 

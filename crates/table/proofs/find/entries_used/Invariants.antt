@@ -2,12 +2,8 @@
 -- Assumes nothing.
 use mathlib.Core.Path.{◌≡◌}
 use Prim.Native.Nat.{◌+◌, ◌*◌, ◌-◌, ◌≤◌}
-use native.Mathlib.Omega.{arith}
-use borrow.Author.Rules.{rules}
-use Rattle.codec.specs.Lists.{passed, failed}
 use Rattle.records.specs.Entries.{entry_mark}
 use Rattle.document.specs.Tables.{entries_used, used}
-use Rattle.table.specs.Slots.{used_step, used_none}
 use mathlib.Core.Path.{◌≡◌}
 use Prim.Native.Nat.{◌+◌, ◌*◌, ◌-◌, ◌≤◌}
 use Rattle.table.proofs.find.entries_used.Given as goal

@@ -1,13 +1,9 @@
 -- `table::find::entry` meets its contract. The loop's invariant: the first is the first from i on. Assumes nothing.
-use mathlib.Core.Path.{◌≡◌, sym, ◌∙◌}
+use mathlib.Core.Path.{◌≡◌}
 use Prim.Native.Nat.{ℕ, ◌-◌, ◌≤◌}
-use native.Mathlib.Omega.{arith}
-use native.Mathlib.Nat.{sub-zero}
-use borrow.Author.Rules.{rules}
-use mathlib.Core.Bool.{true, false}
 use Rattle.document.specs.Tables.{is_key, entry_in}
-use Rattle.table.specs.Slots.{first_slot, first_entry, first_step, first_none}
-use mathlib.Core.Path.{◌≡◌, sym, ◌∙◌}
+use Rattle.table.specs.Slots.{first_slot, first_entry}
+use mathlib.Core.Path.{◌≡◌}
 use Prim.Native.Nat.{ℕ, ◌-◌, ◌≤◌}
 use Rattle.table.proofs.find.entry.Given as goal
 

@@ -1,14 +1,9 @@
 -- `table::find::replica` meets its contract. The loop's invariant: the first is the first from i on. Assumes nothing.
-use mathlib.Core.Path.{◌≡◌, sym, ◌∙◌}
+use mathlib.Core.Path.{◌≡◌}
 use Prim.Native.Nat.{ℕ, ◌-◌, ◌≤◌}
-use native.Mathlib.Omega.{arith}
-use native.Mathlib.Nat.{sub-zero}
-use borrow.Author.Rules.{rules}
-use borrow.Author.Tests.{eq-eqb, ne_eqb}
-use mathlib.Core.Bool.{true, false}
 use Rattle.document.specs.Tables.{has_id, replica_in}
-use Rattle.table.specs.Slots.{first_slot, first_replica, first_step, first_none, id_at}
-use mathlib.Core.Path.{◌≡◌, sym, ◌∙◌}
+use Rattle.table.specs.Slots.{first_slot, first_replica}
+use mathlib.Core.Path.{◌≡◌}
 use Prim.Native.Nat.{ℕ, ◌-◌, ◌≤◌}
 use Rattle.table.proofs.find.replica.Given as goal
 

@@ -1,12 +1,9 @@
 -- `table::range::entries_in_range` meets its contract. The loop's invariant: all are exactly if those from i on are. Assumes nothing.
-use mathlib.Core.Path.{◌≡◌, refl, sym, ◌∙◌}
-use Prim.Native.Nat.{◌-◌, ◌≤◌}
+use mathlib.Core.Path.{refl, sym, ◌∙◌}
 use native.Mathlib.Omega.{arith}
 use native.Mathlib.Nat.{sub-zero}
 use borrow.Author.Rules.{rules}
-use Rattle.codec.specs.Lists.{and_stop, and_go, passed, failed}
-use Rattle.document.specs.Tables.{every_slot}
-use Rattle.table.specs.Ranges.{entry_slot_fits}
+use Rattle.codec.specs.Lists.{and_stop, and_go}
 use Rattle.table.specs.Slots.{slots_step, slots_none}
 use Rattle.table.proofs.range.entries_in_range.Goals as goal
 

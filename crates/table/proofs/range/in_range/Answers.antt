@@ -4,7 +4,7 @@ use native.Mathlib.Omega.{arith}
 use borrow.Author.Rules.{rules}
 use borrow.Author.Tests.{eq-eqb, ne_eqb}
 use Rattle.codec.specs.Bytes.{chunk}
-use Rattle.codec.specs.Lists.{and_stop, and_go, passed, failed}
+use Rattle.codec.specs.Lists.{and_stop, and_go}
 use Rattle.document.specs.Tables.{table_of, replicas_used, entries_used}
 use Rattle.table.specs.Ranges.{nodes_at, nodes_most, range_tests}
 use Rattle.table.proofs.range.in_range.Goals as goal

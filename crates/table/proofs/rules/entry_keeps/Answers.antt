@@ -1,14 +1,12 @@
 -- `table::rules::entry_keeps` meets its contract: sentence by sentence, in the order of the definition.
 --  Assumes nothing.
 use mathlib.Core.Path.{ap, sym, ◌∙◌}
-use Rattle.codec.specs.Lists.{and_go, and_stop, failed, passed}
+use Rattle.codec.specs.Lists.{and_go, and_stop}
 use Prim.Native.Nat.{ℕ}
 use mathlib.Core.Bool.{not}
 use lib.Dec.{leb}
 use borrow.Author.Tests.{eq-eqb, ne_eqb}
 use Rattle.table.specs.Rules.{entry_tests}
-use Rattle.slots.proofs.listed.Listed.read.Reads as listed-Listed-read-reads
-use Rattle.slots.proofs.table_header.TableHeader.read.Reads as table-header-TableHeader-read-reads
 use Rattle.table.proofs.rules.entry_keeps.Goals as goal
 
 pub returns-then-not-is_parent : goal.returns-then-not-is_parent

@@ -1,15 +1,11 @@
 -- `table::rules::id_is_new` meets its contract. The loop's invariant: it is new exactly if none from i on has the id.
 -- Assumes nothing.
-use mathlib.Core.Path.{◌≡◌, refl, ap, sym, ◌∙◌}
-use Prim.Native.Nat.{ℕ, ◌-◌, ◌≤◌}
+use mathlib.Core.Path.{refl, ap, sym, ◌∙◌}
 use native.Mathlib.Omega.{arith}
 use borrow.Author.Rules.{rules}
 use mathlib.Core.Bool.{not}
 use Rattle.codec.specs.Lists.{and_stop, and_go}
 use borrow.Author.Tests.{eq-eqb, ne_eqb}
-use Rattle.document.specs.Tables.{every_slot, replica_in}
-use Rattle.document.specs.Sound.{same_id}
-use Rattle.table.specs.Rules.{id_new}
 use Rattle.table.specs.Slots.{slots_step, slots_none, id_at}
 use Rattle.table.proofs.rules.id_is_new.Goals as goal
 

@@ -1,17 +1,12 @@
 -- `table::rules::key_is_new` meets its contract. The loop's invariant: it is new exactly if none from i on has the key.
 -- Assumes nothing.
 use Rattle.table.specs.Rules.{key_test}
-use mathlib.Core.Path.{◌≡◌, refl, ap, sym, ◌∙◌}
-use Prim.Native.Nat.{ℕ, ◌-◌, ◌≤◌}
+use mathlib.Core.Path.{refl, ap, sym, ◌∙◌}
 use native.Mathlib.Omega.{arith}
 use mathlib.Core.Bool.{not}
 use Rattle.codec.specs.Lists.{and_stop, and_go}
-use Rattle.document.specs.Tables.{every_slot, entry_in}
-use Rattle.document.specs.Sound.{same_key}
-use Rattle.table.specs.Rules.{key_new}
 use Rattle.table.specs.Slots.{slots_step, slots_none}
 use mathlib.Core.Bool.{not}
-use Rattle.document.specs.Tables.{every_slot, entry_in}
 use Rattle.table.proofs.rules.key_is_new.Goals as goal
 
 pub returns-then-has_key : goal.returns-then-has_key

@@ -1,13 +1,8 @@
 -- `table::rules::keys_unique` meets its contract. The loop's invariant: all are exactly if those from i on are. Assumes nothing.
-use mathlib.Core.Path.{◌≡◌, refl, sym, ◌∙◌}
+use mathlib.Core.Path.{◌≡◌}
 use Prim.Native.Nat.{◌-◌, ◌≤◌}
-use native.Mathlib.Omega.{arith}
-use native.Mathlib.Nat.{sub-zero}
-use borrow.Author.Rules.{rules}
-use Rattle.codec.specs.Lists.{and_stop, and_go, passed, failed}
 use Rattle.document.specs.Tables.{every_slot}
 use Rattle.table.specs.Rules.{key_new}
-use Rattle.table.specs.Slots.{slots_step, slots_none}
 use Rattle.table.proofs.rules.keys_unique.Given as goal
 
 abbrev pub invariant-loop-i : goal.invariant-loop-i

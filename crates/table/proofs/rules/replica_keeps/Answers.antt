@@ -1,13 +1,11 @@
 -- `table::rules::replica_keeps` meets its contract: sentence by sentence, in the order of the definition.
 --  Assumes nothing.
 use mathlib.Core.Path.{ap, sym, ◌∙◌}
-use Rattle.codec.specs.Lists.{and_go, and_stop, failed, passed}
+use Rattle.codec.specs.Lists.{and_go, and_stop}
 use Prim.Native.Nat.{ℕ}
 use lib.Dec.{leb}
 use borrow.Author.Tests.{le-leb, lt-leb}
 use Rattle.table.specs.Rules.{replica_tests}
-use Rattle.slots.proofs.replica.Replica.read.Reads as replica-Replica-read-reads
-use Rattle.slots.proofs.table_header.TableHeader.read.Reads as table-header-TableHeader-read-reads
 use Rattle.table.proofs.rules.replica_keeps.Goals as goal
 
 pub returns-then-not-holders_include : goal.returns-then-not-holders_include

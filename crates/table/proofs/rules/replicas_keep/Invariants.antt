@@ -1,14 +1,9 @@
 -- `table::rules::replicas_keep` meets its contract. The loop's invariant: all do exactly if those from i on do. Assumes nothing.
-use mathlib.Core.Path.{◌≡◌, refl, sym, ◌∙◌}
+use mathlib.Core.Path.{◌≡◌}
 use Prim.Native.Nat.{ℕ, ◌-◌, ◌≤◌}
-use native.Mathlib.Omega.{arith}
-use native.Mathlib.Nat.{sub-zero}
-use borrow.Author.Rules.{rules}
-use Rattle.codec.specs.Lists.{and_stop, and_go, passed, failed}
 use Rattle.document.specs.Tables.{every_slot, replica_in}
 use Rattle.document.specs.Sound.{replica_keeps}
 use Rattle.table.specs.Rules.{table_at}
-use Rattle.table.specs.Slots.{slots_step, slots_none}
 use Rattle.table.proofs.rules.replicas_keep.Given as goal
 
 abbrev pub invariant-loop-i : goal.invariant-loop-i

@@ -1,6 +1,6 @@
 -- `table::rules::slots_keep` meets its contract: the entries, then the replicas. Assumes nothing.
 use borrow.Author.Rules.{rules}
-use Rattle.codec.specs.Lists.{and_go, and_stop, failed, passed}
+use Rattle.codec.specs.Lists.{and_go, and_stop}
 use mathlib.Core.Path.{sym, ◌∙◌}
 use Rattle.table.proofs.rules.slots_keep.Goals as goal
 

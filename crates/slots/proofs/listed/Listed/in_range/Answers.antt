@@ -1,8 +1,7 @@
 -- `slots::listed::Listed::in_range` meets its contract: part by part, in the order of the definition. Assumes nothing.
 use mathlib.Core.Path.{ap, sym, ◌∙◌}
-use Rattle.codec.specs.Lists.{and_go, and_stop, failed, passed}
+use Rattle.codec.specs.Lists.{and_go, and_stop}
 use Rattle.slots.specs.Listings.{listed_range}
-use borrow.Author.Rules.{rules}
 use Rattle.numbers.specs.Ids.{is_id}
 use Rattle.slots.proofs.listed.Listed.in_range.Goals as goal
 

@@ -2,7 +2,6 @@
 use mathlib.Core.Path.{◌∙◌}
 use Rattle.codec.specs.Laws.{after}
 use Rattle.slots.specs.Listings.{listed_stores}
-use borrow.Author.Rules.{rules}
 use Rattle.slots.proofs.listed.Listed.write.Goals as goal
 
 pub returns : goal.returns

@@ -1,8 +1,7 @@
 -- `slots::replica::Replica::in_range` meets its contract: part by part, in the order of the definition. Assumes nothing.
 use mathlib.Core.Path.{ap, sym, ◌∙◌}
-use Rattle.codec.specs.Lists.{and_go, and_stop, failed, passed}
+use Rattle.codec.specs.Lists.{and_go, and_stop}
 use Rattle.slots.specs.Replicas.{replica_range}
-use borrow.Author.Rules.{rules}
 use Rattle.numbers.specs.Ids.{is_version}
 use Rattle.numbers.specs.Nodes.{is_set}
 use Rattle.slots.proofs.replica.Replica.in_range.Goals as goal

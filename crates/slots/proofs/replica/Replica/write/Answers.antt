@@ -2,7 +2,6 @@
 use mathlib.Core.Path.{◌∙◌}
 use Rattle.codec.specs.Laws.{after}
 use Rattle.slots.specs.Replicas.{replica_stores}
-use borrow.Author.Rules.{rules}
 use Rattle.slots.proofs.replica.Replica.write.Goals as goal
 
 pub returns : goal.returns

@@ -1,9 +1,8 @@
 -- `slots::table_header::TableHeader::fits` meets its contract: field by field, in the order of the definition.
 -- Assumes nothing.
-use Rattle.codec.specs.Lists.{and_go, and_stop, failed, passed}
+use Rattle.codec.specs.Lists.{and_go, and_stop}
 use mathlib.Core.Path.{refl}
 use Rattle.slots.specs.TableHeaders.{table_header_fits}
-use borrow.Author.Rules.{rules}
 use mathlib.Core.Path.{sym, ◌∙◌}
 use Rattle.slots.proofs.table_header.TableHeader.fits.Goals as goal
 

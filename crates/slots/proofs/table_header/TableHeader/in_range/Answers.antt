@@ -1,8 +1,7 @@
 -- `slots::table_header::TableHeader::in_range` meets its contract: the mark, the zeros, the fields. Assumes nothing.
 use mathlib.Core.Path.{ap, sym, ◌∙◌}
-use Rattle.codec.specs.Lists.{and_go, and_stop, failed, passed}
+use Rattle.codec.specs.Lists.{and_go, and_stop}
 use Rattle.slots.specs.TableHeaders.{table_header_fits, table_range}
-use borrow.Author.Rules.{rules}
 use Rattle.slots.proofs.table_header.TableHeader.in_range.Goals as goal
 
 pub returns-then-not-is_marked : goal.returns-then-not-is_marked

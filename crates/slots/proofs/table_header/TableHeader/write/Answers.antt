@@ -2,7 +2,6 @@
 use mathlib.Core.Path.{◌∙◌}
 use Rattle.codec.specs.Laws.{after}
 use Rattle.slots.specs.TableHeaders.{table_stores}
-use borrow.Author.Rules.{rules}
 use Rattle.slots.proofs.table_header.TableHeader.write.Goals as goal
 
 pub returns : goal.returns
