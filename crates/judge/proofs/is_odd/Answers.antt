@@ -55,10 +55,10 @@ entries_agree-requires c =
     let a = c.args in
     let pre = c.requires in
     let read = c.read-header in
-    let entries_used_law = c.entries_used-k in
+    let taken_slots = c.entries_used-k in
     let n = counted _ a.message.now _ _ pre.1 read.ensures in (
       sound_length a.table.now pre.0,
-      entries_used_law.ensures.0,
+      taken_slots.ensures.0,
       n.few_heads,
       n.few_entries,
       omega (arith, n.size),
@@ -82,12 +82,12 @@ above_agree-requires c =
     let a = c.args in
     let pre = c.requires in
     let read = c.read-header in
-    let replicas_used_law = c.replicas_used-m in
-    let entries_used_law = c.entries_used-k in
+    let used = c.replicas_used-m in
+    let taken_slots = c.entries_used-k in
     let n = counted _ a.message.now _ _ pre.1 read.ensures in (
       sound_length a.table.now pre.0,
-      replicas_used_law.ensures.0,
-      entries_used_law.ensures.0,
+      used.ensures.0,
+      taken_slots.ensures.0,
       n.some_heads,
       n.few_heads,
       omega (arith, n.size),
@@ -114,9 +114,9 @@ pub first_agrees-requires : goal.first_agrees-requires
 first_agrees-requires c =
     let a = c.args in
     let pre = c.requires in
-    let replicas_used_law = c.replicas_used-m in
-    let entries_used_law = c.entries_used-k in
-    (sound_length a.table.now pre.0, replicas_used_law.ensures.0, entries_used_law.ensures.0)
+    let used = c.replicas_used-m in
+    let taken_slots = c.entries_used-k in
+    (sound_length a.table.now pre.0, used.ensures.0, taken_slots.ensures.0)
 
 pub returns : goal.returns
 returns c =

@@ -46,10 +46,10 @@ returns-then-not-join_all c =
     let slice-known = c.slice_known-1 in
     let take-heads = c.take_heads in
     let if1 = c.if-not-take_heads in
-    let join_all_law = c.join_all in (
+    let joins = c.join_all in (
       entries_full pre (λ n. (slice-known.given n).fits)
           take-heads.ensures (sym refl ∙ if1.false)
-          join_all_law.ensures (sym refl ∙ c.if-not-join_all.true),
+          joins.ensures (sym refl ∙ c.if-not-join_all.true),
       λ e. never e,
     )
 
@@ -60,17 +60,17 @@ mend_all-requires c =
     let slice-known = c.slice_known-1 in
     let take-heads = c.take_heads in
     let if1 = c.if-not-take_heads in
-    let join_all_law = c.join_all in
+    let joins = c.join_all in
     let if2 = c.if-not-join_all in
     let a : Bytes args.t.now = (λ n. (slice-known.given n).fits) in (
       entries_works pre a take-heads.ensures (sym refl ∙ if1.false)
-          join_all_law.ensures (sym refl ∙ if2.false),
+          joins.ensures (sym refl ∙ if2.false),
       entries_base pre a take-heads.ensures (sym refl ∙ if1.false)
-          join_all_law.ensures (sym refl ∙ if2.false),
+          joins.ensures (sym refl ∙ if2.false),
       entries_shown pre a take-heads.ensures (sym refl ∙ if1.false)
-          join_all_law.ensures (sym refl ∙ if2.false),
+          joins.ensures (sym refl ∙ if2.false),
       entries_clock pre a take-heads.ensures (sym refl ∙ if1.false)
-          join_all_law.ensures (sym refl ∙ if2.false),
+          joins.ensures (sym refl ∙ if2.false),
       omega (arith, pre.early),
     )
 
@@ -81,12 +81,12 @@ returns c =
     let slice-known = c.slice_known-1 in
     let take-heads = c.take_heads in
     let if1 = c.if-not-take_heads in
-    let join_all_law = c.join_all in
+    let joins = c.join_all in
     let if2 = c.if-not-join_all in
     let mend-all = c.mend_all in
     let a : Bytes args.t.now = (λ n. (slice-known.given n).fits) in (
       merge_made pre a take-heads.ensures (sym refl ∙ if1.false)
-          join_all_law.ensures (sym refl ∙ if2.false) mend-all.ensures,
+          joins.ensures (sym refl ∙ if2.false) mend-all.ensures,
       merge_grown pre a take-heads.ensures (sym refl ∙ if1.false)
-          join_all_law.ensures (sym refl ∙ if2.false) mend-all.ensures,
+          joins.ensures (sym refl ∙ if2.false) mend-all.ensures,
     )

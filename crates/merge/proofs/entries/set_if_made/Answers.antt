@@ -15,8 +15,8 @@ pub returns-in_default : goal.returns-in_default
 returns-in_default c =
     let args = c.args in
     let pre = c.requires in
-    let replicas_used_law = c.replicas_used in
-    let f = found_head args.old.now _ args.h.id c.in_default.field-0 replicas_used_law.ensures.0
+    let used = c.replicas_used in
+    let f = found_head args.old.now _ args.h.id c.in_default.field-0 used.ensures.0
     (sym c.replica-found.ensures ∙ c.in_default.is) in
     setting_held (table_of args.old.now) args.h _ pre.0 f.1
 
@@ -29,11 +29,11 @@ pub returns : goal.returns
 returns c =
     let args = c.args in
     let pre = c.requires in
-    let replicas_used_law = c.replicas_used in
+    let used = c.replicas_used in
     let replica = c.replica-found in
     let place-entry = c.place_entry in
     let set = c.set in
     setting_made (table_of args.old.now) args.h _ pre.0 pre.2
-    (not_found args.old.now _ args.h.id replicas_used_law.ensures.0
+    (not_found args.old.now _ args.h.id used.ensures.0
     (sym replica.ensures ∙ c.in-Nothing.is))
     place-entry.ensures set.ensures.0 set.ensures.1

@@ -22,51 +22,51 @@ pub returns-in_default : goal.returns-in_default
 returns-in_default c =
     let args = c.args in
     let pre = c.requires in
-    let replicas_used_law = c.replicas_used in
+    let used = c.replicas_used in
     let replica = c.replica-found in
     let place-entry = c.place_entry in
     let set = c.set in
     first_made (table_of args.old.now) args.h pre.0 pre.2 _
-    (not_found args.old.now _ args.h.id replicas_used_law.ensures.0
+    (not_found args.old.now _ args.h.id used.ensures.0
     (sym replica.ensures ∙ c.in_default.is))
     place-entry.ensures set.ensures.0 set.ensures.1
 
 pub overflow_mul-i : goal.overflow_mul-i
 overflow_mul-i c =
     let args = c.args in
-    let replicas_used_law = c.replicas_used in
+    let used = c.replicas_used in
     let replica = c.replica-found in
-    let f = found_head args.old.now _ args.h.id c.in-At.i replicas_used_law.ensures.0
+    let f = found_head args.old.now _ args.h.id c.in-At.i used.ensures.0
     (sym replica.ensures ∙ c.in-At.is) in
-    omega (arith, f.0, replicas_used_law.ensures.1)
+    omega (arith, f.0, used.ensures.1)
 
 pub overflow_add-i : goal.overflow_add-i
 overflow_add-i c =
     let args = c.args in
-    let replicas_used_law = c.replicas_used in
+    let used = c.replicas_used in
     let replica = c.replica-found in
-    let f = found_head args.old.now _ args.h.id c.in-At.i replicas_used_law.ensures.0
+    let f = found_head args.old.now _ args.h.id c.in-At.i used.ensures.0
     (sym replica.ensures ∙ c.in-At.is) in
-    omega (arith, f.0, replicas_used_law.ensures.1)
+    omega (arith, f.0, used.ensures.1)
 
 pub read-was-requires : goal.read-was-requires
 read-was-requires c =
     let args = c.args in
     let pre = c.requires in
-    let replicas_used_law = c.replicas_used in
+    let used = c.replicas_used in
     let replica = c.replica-found in
-    let f = found_head args.old.now _ args.h.id c.in-At.i replicas_used_law.ensures.0
+    let f = found_head args.old.now _ args.h.id c.in-At.i used.ensures.0
     (sym replica.ensures ∙ c.in-At.is) in
-    omega (arith, f.0, replicas_used_law.ensures.1, pre.1)
+    omega (arith, f.0, used.ensures.1, pre.1)
 
 pub set_places-requires : goal.set_places-requires
 set_places-requires c =
     let args = c.args in
     let pre = c.requires in
-    let replicas_used_law = c.replicas_used in
+    let used = c.replicas_used in
     let replica = c.replica-found in
     let read = c.read-was in
-    let f = found_head args.old.now _ args.h.id c.in-At.i replicas_used_law.ensures.0
+    let f = found_head args.old.now _ args.h.id c.in-At.i used.ensures.0
     (sym replica.ensures ∙ c.in-At.is) in
     let n = f.1 ∙ ap some (sym read.ensures) in
     first_places (table_of args.old.now) args.h pre.0 pre.2 _ n c.if-was-h.true
@@ -75,11 +75,11 @@ pub returns-then-was-h : goal.returns-then-was-h
 returns-then-was-h c =
     let args = c.args in
     let pre = c.requires in
-    let replicas_used_law = c.replicas_used in
+    let used = c.replicas_used in
     let replica = c.replica-found in
     let read = c.read-was in
     let if1 = c.if-was-h in
-    let f = found_head args.old.now _ args.h.id c.in-At.i replicas_used_law.ensures.0
+    let f = found_head args.old.now _ args.h.id c.in-At.i used.ensures.0
     (sym replica.ensures ∙ c.in-At.is) in
     let n = f.1 ∙ ap some (sym read.ensures) in
     first_taken (table_of args.old.now) args.h pre.0 pre.2 _ n if1.true
@@ -89,10 +89,10 @@ pub returns : goal.returns
 returns c =
     let args = c.args in
     let pre = c.requires in
-    let replicas_used_law = c.replicas_used in
+    let used = c.replicas_used in
     let replica = c.replica-found in
     let read = c.read-was in
-    let f = found_head args.old.now _ args.h.id c.in-At.i replicas_used_law.ensures.0
+    let f = found_head args.old.now _ args.h.id c.in-At.i used.ensures.0
     (sym replica.ensures ∙ c.in-At.is) in
     let n = f.1 ∙ ap some (sym read.ensures) in
     first_kept (table_of args.old.now) args.h pre.0 pre.2 _ n (omega (arith, c.if-was-h.false))

@@ -17,8 +17,8 @@ pub returns-in_default : goal.returns-in_default
 returns-in_default c =
     let args = c.args in
     let pre = c.requires in
-    let replicas_used_law = c.replicas_used in
-    let f = found_head args.t.now _ args.h.id c.in_default.field-0 replicas_used_law.ensures.0
+    let used = c.replicas_used in
+    let f = found_head args.t.now _ args.h.id c.in_default.field-0 used.ensures.0
     (sym c.replica-found.ensures ∙ c.in_default.is) in
     missing_held args.h _ pre.0 f.1
 
@@ -36,11 +36,11 @@ pub returns : goal.returns
 returns c =
     let args = c.args in
     let pre = c.requires in
-    let replicas_used_law = c.replicas_used in
+    let used = c.replicas_used in
     let replica = c.replica-found in
     let with-own = c.with_own-new in
     let put = c.put in
     missing_made args.h _ pre.0
-    (not_found args.t.now _ args.h.id replicas_used_law.ensures.0
+    (not_found args.t.now _ args.h.id used.ensures.0
     (sym replica.ensures ∙ c.in-Nothing.is))
     with-own.ensures put.ensures.0 put.ensures.1

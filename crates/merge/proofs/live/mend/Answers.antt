@@ -19,46 +19,46 @@ pub returns-in_default : goal.returns-in_default
 returns-in_default c =
     let args = c.args in
     let pre = c.requires in
-    let replicas_used_law = c.replicas_used in
+    let used = c.replicas_used in
     mend_none args.id args.time pre
-    (not_found args.t.now _ args.id replicas_used_law.ensures.0
+    (not_found args.t.now _ args.id used.ensures.0
     (sym c.replica-found.ensures ∙ c.in_default.is))
 
 pub overflow_mul-i : goal.overflow_mul-i
 overflow_mul-i c =
     let args = c.args in
-    let replicas_used_law = c.replicas_used in
+    let used = c.replicas_used in
     let replica = c.replica-found in
-    let f = found_head args.t.now _ args.id c.in-At.i replicas_used_law.ensures.0
+    let f = found_head args.t.now _ args.id c.in-At.i used.ensures.0
     (sym replica.ensures ∙ c.in-At.is) in
-    omega (arith, f.0, replicas_used_law.ensures.1)
+    omega (arith, f.0, used.ensures.1)
 
 pub overflow_add-i : goal.overflow_add-i
 overflow_add-i c =
     let args = c.args in
-    let replicas_used_law = c.replicas_used in
+    let used = c.replicas_used in
     let replica = c.replica-found in
-    let f = found_head args.t.now _ args.id c.in-At.i replicas_used_law.ensures.0
+    let f = found_head args.t.now _ args.id c.in-At.i used.ensures.0
     (sym replica.ensures ∙ c.in-At.is) in
-    omega (arith, f.0, replicas_used_law.ensures.1)
+    omega (arith, f.0, used.ensures.1)
 
 pub read-h-requires : goal.read-h-requires
 read-h-requires c =
     let args = c.args in
     let pre = c.requires in
-    let replicas_used_law = c.replicas_used in
+    let used = c.replicas_used in
     let replica = c.replica-found in
-    let f = found_head args.t.now _ args.id c.in-At.i replicas_used_law.ensures.0
+    let f = found_head args.t.now _ args.id c.in-At.i used.ensures.0
     (sym replica.ensures ∙ c.in-At.is) in
-    omega (arith, f.0, replicas_used_law.ensures.1, pre.works.stands.size)
+    omega (arith, f.0, used.ensures.1, pre.works.stands.size)
 
 pub returns-then-h-ne1 : goal.returns-then-h-ne1
 returns-then-h-ne1 c =
     let args = c.args in
     let pre = c.requires in
-    let replicas_used_law = c.replicas_used in
+    let used = c.replicas_used in
     let replica = c.replica-found in
-    let f = found_head args.t.now _ args.id c.in-At.i replicas_used_law.ensures.0
+    let f = found_head args.t.now _ args.id c.in-At.i used.ensures.0
     (sym replica.ensures ∙ c.in-At.is) in
     let n = f.1 ∙ ap some (sym c.read-h.ensures) in
     mend_dead args.id args.time pre _ n (ne_eqb _ _ c.if-h-ne1.true)
@@ -72,12 +72,12 @@ pub returns-then-not-is_dead : goal.returns-then-not-is_dead
 returns-then-not-is_dead c =
     let args = c.args in
     let pre = c.requires in
-    let replicas_used_law = c.replicas_used in
+    let used = c.replicas_used in
     let replica = c.replica-found in
     let read = c.read-h in
     let if1 = c.if-h-ne1 in
     let is-dead = c.is_dead in
-    let f = found_head args.t.now _ args.id c.in-At.i replicas_used_law.ensures.0
+    let f = found_head args.t.now _ args.id c.in-At.i used.ensures.0
     (sym replica.ensures ∙ c.in-At.is) in
     let n = f.1 ∙ ap some (sym read.ensures) in
     mend_live args.id args.time pre _ n (eq-eqb _ _ if1.false)
@@ -87,12 +87,12 @@ pub overflow_sub-h : goal.overflow_sub-h
 overflow_sub-h c =
     let args = c.args in
     let pre = c.requires in
-    let replicas_used_law = c.replicas_used in
+    let used = c.replicas_used in
     let replica = c.replica-found in
     let read = c.read-h in
     let if1 = c.if-h-ne1 in
     let is-dead = c.is_dead in
-    let f = found_head args.t.now _ args.id c.in-At.i replicas_used_law.ensures.0
+    let f = found_head args.t.now _ args.id c.in-At.i used.ensures.0
     (sym replica.ensures ∙ c.in-At.is) in
     let n = f.1 ∙ ap some (sym read.ensures) in
     omega (
@@ -105,12 +105,12 @@ pub make_live-requires : goal.make_live-requires
 make_live-requires c =
     let args = c.args in
     let pre = c.requires in
-    let replicas_used_law = c.replicas_used in
+    let used = c.replicas_used in
     let replica = c.replica-found in
     let read = c.read-h in
     let if1 = c.if-h-ne1 in
     let is-dead = c.is_dead in
-    let f = found_head args.t.now _ args.id c.in-At.i replicas_used_law.ensures.0
+    let f = found_head args.t.now _ args.id c.in-At.i used.ensures.0
     (sym replica.ensures ∙ c.in-At.is) in
     let n = f.1 ∙ ap some (sym read.ensures) in
     mend_lights args.id args.time pre _ n (eq-eqb _ _ if1.false)
@@ -120,13 +120,13 @@ pub returns : goal.returns
 returns c =
     let args = c.args in
     let pre = c.requires in
-    let replicas_used_law = c.replicas_used in
+    let used = c.replicas_used in
     let replica = c.replica-found in
     let read = c.read-h in
     let if1 = c.if-h-ne1 in
     let is-dead = c.is_dead in
     let if2 = c.if-not-is_dead in
-    let f = found_head args.t.now _ args.id c.in-At.i replicas_used_law.ensures.0
+    let f = found_head args.t.now _ args.id c.in-At.i used.ensures.0
     (sym replica.ensures ∙ c.in-At.is) in
     let n = f.1 ∙ ap some (sym read.ensures) in
     mend_made args.id args.time pre _ n (eq-eqb _ _ if1.false)

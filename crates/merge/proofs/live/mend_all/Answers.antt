@@ -27,49 +27,49 @@ overflow_add-i-in-loop-i c = omega (arith, c.loop-i-test.true, c.replicas_used-m
 
 pub get_u32-id-requires : goal.get_u32-id-requires
 get_u32-id-requires c =
-    let replicas_used_law = c.replicas_used-m in
+    let used = c.replicas_used-m in
     omega (
       arith,
       c.loop-i-test.true,
-      replicas_used_law.ensures.1,
+      used.ensures.1,
       c.loop-i.invariant.works.stands.size,
     )
 
 pub mend-requires : goal.mend-requires
 mend-requires c =
     let args = c.args in
-    let replicas_used_law = c.replicas_used-m in
+    let used = c.replicas_used-m in
     let loop = c.loop-i in
     let loop-test = c.loop-i-test in
     mending_mends args.time args.t.now loop.i loop.invariant
-    (omega (arith, loop-test.true, replicas_used_law.ensures.0))
+    (omega (arith, loop-test.true, used.ensures.0))
 
 pub returns-then-not-mend : goal.returns-then-not-mend
 returns-then-not-mend c =
     let args = c.args in
-    let replicas_used_law = c.replicas_used-m in
+    let used = c.replicas_used-m in
     let loop = c.loop-i in
     let loop-test = c.loop-i-test in
     let get-u32 = c.get_u32-id in
     let mend = c.mend in
     let id = get-u32.ensures ∙ sym (id_at loop.t loop.i) ∙ (mending_id args.time args.t.now loop.i
-    loop.invariant (omega (arith, loop-test.true, replicas_used_law.ensures.0))).1 in
+    loop.invariant (omega (arith, loop-test.true, used.ensures.0))).1 in
     mending_full args.time args.t.now loop.i loop.invariant
-    (omega (arith, loop-test.true, replicas_used_law.ensures.0)) _ id
+    (omega (arith, loop-test.true, used.ensures.0)) _ id
     (made_as (sym refl ∙ c.if-not-mend.true) mend.ensures)
 
 pub loop-i-preserved : goal.loop-i-preserved
 loop-i-preserved c =
     let args = c.args in
-    let replicas_used_law = c.replicas_used-m in
+    let used = c.replicas_used-m in
     let loop = c.loop-i in
     let loop-test = c.loop-i-test in
     let get-u32 = c.get_u32-id in
     let mend = c.mend in
     let id = get-u32.ensures ∙ sym (id_at loop.t loop.i) ∙ (mending_id args.time args.t.now loop.i
-    loop.invariant (omega (arith, loop-test.true, replicas_used_law.ensures.0))).1 in
+    loop.invariant (omega (arith, loop-test.true, used.ensures.0))).1 in
     mending_turn args.time args.t.now loop.i loop.invariant
-    (omega (arith, loop-test.true, replicas_used_law.ensures.0)) _ id
+    (omega (arith, loop-test.true, used.ensures.0)) _ id
     (made_as (sym refl ∙ c.if-not-mend.false) mend.ensures)
 
 pub returns : goal.returns

@@ -18,38 +18,38 @@ pub returns-in_default : goal.returns-in_default
 returns-in_default c =
     let args = c.args in
     let pre = c.requires in
-    let replicas_used_law = c.replicas_used in
+    let used = c.replicas_used in
     revive_none args.id args.time pre.works
-    (not_found args.t.now _ args.id replicas_used_law.ensures.0
+    (not_found args.t.now _ args.id used.ensures.0
     (sym c.replica-found.ensures ∙ c.in_default.is))
 
 pub overflow_mul-i : goal.overflow_mul-i
 overflow_mul-i c =
     let args = c.args in
-    let replicas_used_law = c.replicas_used in
+    let used = c.replicas_used in
     let replica = c.replica-found in
-    let f = found_head args.t.now _ args.id c.in-At.i replicas_used_law.ensures.0
+    let f = found_head args.t.now _ args.id c.in-At.i used.ensures.0
     (sym replica.ensures ∙ c.in-At.is) in
-    omega (arith, f.0, replicas_used_law.ensures.1)
+    omega (arith, f.0, used.ensures.1)
 
 pub overflow_add-i : goal.overflow_add-i
 overflow_add-i c =
     let args = c.args in
-    let replicas_used_law = c.replicas_used in
+    let used = c.replicas_used in
     let replica = c.replica-found in
-    let f = found_head args.t.now _ args.id c.in-At.i replicas_used_law.ensures.0
+    let f = found_head args.t.now _ args.id c.in-At.i used.ensures.0
     (sym replica.ensures ∙ c.in-At.is) in
-    omega (arith, f.0, replicas_used_law.ensures.1)
+    omega (arith, f.0, used.ensures.1)
 
 pub read-h-requires : goal.read-h-requires
 read-h-requires c =
     let args = c.args in
     let pre = c.requires in
-    let replicas_used_law = c.replicas_used in
+    let used = c.replicas_used in
     let replica = c.replica-found in
-    let f = found_head args.t.now _ args.id c.in-At.i replicas_used_law.ensures.0
+    let f = found_head args.t.now _ args.id c.in-At.i used.ensures.0
     (sym replica.ensures ∙ c.in-At.is) in
-    omega (arith, f.0, replicas_used_law.ensures.1, pre.works.stands.size)
+    omega (arith, f.0, used.ensures.1, pre.works.stands.size)
 
 pub draw-stamp-requires : goal.draw-stamp-requires
 draw-stamp-requires c =
@@ -60,11 +60,11 @@ pub state-requires : goal.state-requires
 state-requires c =
     let args = c.args in
     let pre = c.requires in
-    let replicas_used_law = c.replicas_used in
+    let used = c.replicas_used in
     let replica = c.replica-found in
     let read = c.read-h in
     let draw = c.draw-stamp in
-    let f = found_head args.t.now _ args.id c.in-At.i replicas_used_law.ensures.0
+    let f = found_head args.t.now _ args.id c.in-At.i used.ensures.0
     (sym replica.ensures ∙ c.in-At.is) in
     let n = f.1 ∙ ap some (sym read.ensures) in
     revive_ready args.id args.time pre _ n draw.ensures.0 draw.ensures.1 c.with_stamp.ensures
@@ -73,12 +73,12 @@ pub returns : goal.returns
 returns c =
     let args = c.args in
     let pre = c.requires in
-    let replicas_used_law = c.replicas_used in
+    let used = c.replicas_used in
     let replica = c.replica-found in
     let read = c.read-h in
     let draw = c.draw-stamp in
     let with-stamp = c.with_stamp in
-    let f = found_head args.t.now _ args.id c.in-At.i replicas_used_law.ensures.0
+    let f = found_head args.t.now _ args.id c.in-At.i used.ensures.0
     (sym replica.ensures ∙ c.in-At.is) in
     let n = f.1 ∙ ap some (sym read.ensures) in
     revive_made args.id args.time pre _ n draw.ensures.0 draw.ensures.1 with-stamp.ensures

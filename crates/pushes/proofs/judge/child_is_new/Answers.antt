@@ -25,19 +25,19 @@ loop-j-init c =
 
 pub returns-then-is_same : goal.returns-then-is_same
 returns-then-is_same c =
-    let tested_ : let l = c.loop-j in
+    let tested : let l = c.loop-j in
     let a = c.args in
     c.is_same.result ≡ same_child_name (entry_in a.k a.m.now l.j) (entry_in a.k a.m.now a.i) =
     let l = c.loop-j in
     let a = c.args in
     c.is_same.ensures ∙ is_same_law a.k a.m.now a.i l.j _ _ l.invariant.1 l.invariant.2 in
     let l = c.loop-j in
-    and_stop _ _ (ap not (sym tested_ ∙ c.if-is_same.true))
+    and_stop _ _ (ap not (sym tested ∙ c.if-is_same.true))
     ∙ sym (l.invariant.3 ∙ slots_step _ _ _ c.loop-j-test.true)
 
 pub loop-j-preserved : goal.loop-j-preserved
 loop-j-preserved c =
-    let tested_ : let l = c.loop-j in
+    let tested : let l = c.loop-j in
     let a = c.args in
     c.is_same.result ≡ same_child_name (entry_in a.k a.m.now l.j) (entry_in a.k a.m.now a.i) =
     let l = c.loop-j in
@@ -48,7 +48,7 @@ loop-j-preserved c =
       l.invariant.1,
       l.invariant.2,
       l.invariant.3 ∙ slots_step _ _ _ c.loop-j-test.true
-          ∙ sym (and_go _ _ (ap not (sym tested_ ∙ c.if-is_same.false)) refl),
+          ∙ sym (and_go _ _ (ap not (sym tested ∙ c.if-is_same.false)) refl),
     )
 
 pub returns : goal.returns

@@ -14,21 +14,21 @@ returns-then-not-in_range c = and_stop _ _ (sym c.in_range.ensures ∙ c.if-not-
 pub returns-then-not-is_held : goal.returns-then-not-is_held
 unfolding first_fine
 returns-then-not-is_held c =
-    let held_ : let a = c.args in
+    let held : let a = c.args in
     c.is_held.result ≡ held_by a.header.sender (head_in a.m.now 0) =
     let a = c.args in
     c.is_held.ensures ∙ ap (held_by a.header.sender) c.head-h.ensures in
     and_go _ _ (sym c.in_range.ensures ∙ c.if-not-in_range.false)
-    (and_stop _ _ (sym held_ ∙ c.if-not-is_held.true))
+    (and_stop _ _ (sym held ∙ c.if-not-is_held.true))
 
 pub returns : goal.returns
 unfolding first_fine
 returns c =
-    let held_ : let a = c.args in
+    let held : let a = c.args in
     c.is_held.result ≡ held_by a.header.sender (head_in a.m.now 0) =
     let a = c.args in
     c.is_held.ensures ∙ ap (held_by a.header.sender) c.head-h.ensures in
     and_go _ _ (sym c.in_range.ensures ∙ c.if-not-in_range.false)
-    (and_go _ _ (sym held_ ∙ c.if-not-is_held.false)
+    (and_go _ _ (sym held ∙ c.if-not-is_held.false)
     (c.top_fine.ensures
     ∙ ap (λ (h : Head). top_fine h c.args.header) c.head-h.ensures))

@@ -16,43 +16,43 @@ returns-then-not-in_range c = and_stop _ _ (sym c.in_range.ensures ∙ c.if-not-
 pub returns-then-not-is_held : goal.returns-then-not-is_held
 unfolding head_fine
 returns-then-not-is_held c =
-    let held_ : let a = c.args in
+    let held : let a = c.args in
     c.is_held.result ≡ held_by a.sender (head_in a.m.now a.i) =
     let a = c.args in
     c.is_held.ensures ∙ ap (held_by a.sender) c.head-g.ensures in
     and_go _ _ (sym c.in_range.ensures ∙ c.if-not-in_range.false)
-    (and_stop _ _ (sym held_ ∙ c.if-not-is_held.true))
+    (and_stop _ _ (sym held ∙ c.if-not-is_held.true))
 
 pub returns-then-not-is_linked : goal.returns-then-not-is_linked
 unfolding head_fine
 returns-then-not-is_linked c =
-    let held_ : let a = c.args in
+    let held : let a = c.args in
     c.is_held.result ≡ held_by a.sender (head_in a.m.now a.i) =
     let a = c.args in
     c.is_held.ensures ∙ ap (held_by a.sender) c.head-g.ensures in
-    let place_ : let a = c.args in
+    let place : let a = c.args in
     c.is_linked.result ≡ linked (head_in a.m.now (a.i - 1)) (head_in a.m.now a.i) =
     let a = c.args in
     c.is_linked.ensures
     ∙ ap (λ (h : Head). linked h c.head-g.result) c.head.ensures
     ∙ ap (linked (head_in a.m.now (a.i - 1))) c.head-g.ensures in
     and_go _ _ (sym c.in_range.ensures ∙ c.if-not-in_range.false)
-    (and_go _ _ (sym held_ ∙ c.if-not-is_held.false)
-    (and_stop _ _ (sym place_ ∙ c.if-not-is_linked.true)))
+    (and_go _ _ (sym held ∙ c.if-not-is_held.false)
+    (and_stop _ _ (sym place ∙ c.if-not-is_linked.true)))
 
 pub returns : goal.returns
 unfolding head_fine
 returns c =
-    let held_ : let a = c.args in
+    let held : let a = c.args in
     c.is_held.result ≡ held_by a.sender (head_in a.m.now a.i) =
     let a = c.args in
     c.is_held.ensures ∙ ap (held_by a.sender) c.head-g.ensures in
-    let place_ : let a = c.args in
+    let place : let a = c.args in
     c.is_linked.result ≡ linked (head_in a.m.now (a.i - 1)) (head_in a.m.now a.i) =
     let a = c.args in
     c.is_linked.ensures
     ∙ ap (λ (h : Head). linked h c.head-g.result) c.head.ensures
     ∙ ap (linked (head_in a.m.now (a.i - 1))) c.head-g.ensures in
     and_go _ _ (sym c.in_range.ensures ∙ c.if-not-in_range.false)
-    (and_go _ _ (sym held_ ∙ c.if-not-is_held.false)
-    (and_go _ _ (sym place_ ∙ c.if-not-is_linked.false) c.id_is_new.ensures))
+    (and_go _ _ (sym held ∙ c.if-not-is_held.false)
+    (and_go _ _ (sym place ∙ c.if-not-is_linked.false) c.id_is_new.ensures))

@@ -34,12 +34,12 @@ first_fine-requires c =
     let header_ : header_fine c.args.n c.args.m.now ≡
     true =
     (sym c.header_fine.ensures ∙ c.if-not-header_fine.false) in
-    let sizes_ : let h = c.header-header.result in
+    let sizes : let h = c.header-header.result in
     let l = c.args.m.now in
     (1 ≤ h.heads) × (h.heads ≤ 16) × (h.entries ≤ 32) × (length l ≡ 16 + 40 * h.heads + 32 * h.entries) =
     sized_by c.args.n c.args.m.now
     c.header-header.result c.header-header.ensures header_ in
-    let s = sizes_ in
+    let s = sizes in
     (omega (arith, s.0, s.3), search rules)
 
 pub returns-then-not-first_fine : goal.returns-then-not-first_fine
@@ -47,24 +47,24 @@ returns-then-not-first_fine c =
     let header_ : header_fine c.args.n c.args.m.now ≡
     true =
     (sym c.header_fine.ensures ∙ c.if-not-header_fine.false) in
-    let tests_ : let a = c.args in
+    let tests : let a = c.args in
     order_by a.n a.m.now c.header-header.result ≡ is_push a.n a.m.now =
     push_tests c.args.n c.args.m.now
     c.header-header.result c.header-header.ensures in
     and_go _ _ header_ (and_stop _ _ (sym c.first_fine.ensures ∙ c.if-not-first_fine.true)) ∙
-    tests_
+    tests
 
 pub heads_fine-requires : goal.heads_fine-requires
 heads_fine-requires c =
     let header_ : header_fine c.args.n c.args.m.now ≡
     true =
     (sym c.header_fine.ensures ∙ c.if-not-header_fine.false) in
-    let sizes_ : let h = c.header-header.result in
+    let sizes : let h = c.header-header.result in
     let l = c.args.m.now in
     (1 ≤ h.heads) × (h.heads ≤ 16) × (h.entries ≤ 32) × (length l ≡ 16 + 40 * h.heads + 32 * h.entries) =
     sized_by c.args.n c.args.m.now
     c.header-header.result c.header-header.ensures header_ in
-    let s = sizes_ in
+    let s = sizes in
     (omega (arith, s.0), omega (arith, s.1), omega (arith, s.3), search rules)
 
 pub returns-then-not-heads_fine : goal.returns-then-not-heads_fine
@@ -72,26 +72,26 @@ returns-then-not-heads_fine c =
     let header_ : header_fine c.args.n c.args.m.now ≡
     true =
     (sym c.header_fine.ensures ∙ c.if-not-header_fine.false) in
-    let tests_ : let a = c.args in
+    let tests : let a = c.args in
     order_by a.n a.m.now c.header-header.result ≡ is_push a.n a.m.now =
     push_tests c.args.n c.args.m.now
     c.header-header.result c.header-header.ensures in
     and_go _ _ header_
     (and_go _ _ (sym c.first_fine.ensures ∙ c.if-not-first_fine.false)
     (and_stop _ _ (sym c.heads_fine.ensures ∙ c.if-not-heads_fine.true)))
-    ∙ tests_
+    ∙ tests
 
 pub head-requires : goal.head-requires
 head-requires c =
     let header_ : header_fine c.args.n c.args.m.now ≡
     true =
     (sym c.header_fine.ensures ∙ c.if-not-header_fine.false) in
-    let sizes_ : let h = c.header-header.result in
+    let sizes : let h = c.header-header.result in
     let l = c.args.m.now in
     (1 ≤ h.heads) × (h.heads ≤ 16) × (h.entries ≤ 32) × (length l ≡ 16 + 40 * h.heads + 32 * h.entries) =
     sized_by c.args.n c.args.m.now
     c.header-header.result c.header-header.ensures header_ in
-    let s = sizes_ in
+    let s = sizes in
     omega (arith, s.0, s.3)
 
 pub overflow_sub-k : goal.overflow_sub-k
@@ -99,12 +99,12 @@ overflow_sub-k c =
     let header_ : header_fine c.args.n c.args.m.now ≡
     true =
     (sym c.header_fine.ensures ∙ c.if-not-header_fine.false) in
-    let sizes_ : let h = c.header-header.result in
+    let sizes : let h = c.header-header.result in
     let l = c.args.m.now in
     (1 ≤ h.heads) × (h.heads ≤ 16) × (h.entries ≤ 32) × (length l ≡ 16 + 40 * h.heads + 32 * h.entries) =
     sized_by c.args.n c.args.m.now
     c.header-header.result c.header-header.ensures header_ in
-    let s = sizes_ in
+    let s = sizes in
     omega (arith, s.0)
 
 pub head-requires-2 : goal.head-requires-2
@@ -112,12 +112,12 @@ head-requires-2 c =
     let header_ : header_fine c.args.n c.args.m.now ≡
     true =
     (sym c.header_fine.ensures ∙ c.if-not-header_fine.false) in
-    let sizes_ : let h = c.header-header.result in
+    let sizes : let h = c.header-header.result in
     let l = c.args.m.now in
     (1 ≤ h.heads) × (h.heads ≤ 16) × (h.entries ≤ 32) × (length l ≡ 16 + 40 * h.heads + 32 * h.entries) =
     sized_by c.args.n c.args.m.now
     c.header-header.result c.header-header.ensures header_ in
-    let s = sizes_ in
+    let s = sizes in
     omega (arith, s.0, s.3)
 
 pub returns-then-not-ends_at_root : goal.returns-then-not-ends_at_root
@@ -125,11 +125,11 @@ returns-then-not-ends_at_root c =
     let header_ : header_fine c.args.n c.args.m.now ≡
     true =
     (sym c.header_fine.ensures ∙ c.if-not-header_fine.false) in
-    let tests_ : let a = c.args in
+    let tests : let a = c.args in
     order_by a.n a.m.now c.header-header.result ≡ is_push a.n a.m.now =
     push_tests c.args.n c.args.m.now
     c.header-header.result c.header-header.ensures in
-    let ends_ : let l = c.args.m.now in
+    let ends : let l = c.args.m.now in
     c.ends_at_root.result ≡ ends_at_root (head_in l 0) (head_in l (c.header-header.result.heads - 1)) =
     let l = c.args.m.now in
     c.ends_at_root.ensures
@@ -138,20 +138,20 @@ returns-then-not-ends_at_root c =
     and_go _ _ header_
     (and_go _ _ (sym c.first_fine.ensures ∙ c.if-not-first_fine.false)
     (and_go _ _ (sym c.heads_fine.ensures ∙ c.if-not-heads_fine.false)
-    (and_stop _ _ (sym ends_ ∙ c.if-not-ends_at_root.true))))
-    ∙ tests_
+    (and_stop _ _ (sym ends ∙ c.if-not-ends_at_root.true))))
+    ∙ tests
 
 pub entries_fine-requires : goal.entries_fine-requires
 entries_fine-requires c =
     let header_ : header_fine c.args.n c.args.m.now ≡
     true =
     (sym c.header_fine.ensures ∙ c.if-not-header_fine.false) in
-    let sizes_ : let h = c.header-header.result in
+    let sizes : let h = c.header-header.result in
     let l = c.args.m.now in
     (1 ≤ h.heads) × (h.heads ≤ 16) × (h.entries ≤ 32) × (length l ≡ 16 + 40 * h.heads + 32 * h.entries) =
     sized_by c.args.n c.args.m.now
     c.header-header.result c.header-header.ensures header_ in
-    let s = sizes_ in
+    let s = sizes in
     (omega (arith, s.1), omega (arith, s.2), omega (arith, s.3))
 
 pub returns : goal.returns
@@ -159,11 +159,11 @@ returns c =
     let header_ : header_fine c.args.n c.args.m.now ≡
     true =
     (sym c.header_fine.ensures ∙ c.if-not-header_fine.false) in
-    let tests_ : let a = c.args in
+    let tests : let a = c.args in
     order_by a.n a.m.now c.header-header.result ≡ is_push a.n a.m.now =
     push_tests c.args.n c.args.m.now
     c.header-header.result c.header-header.ensures in
-    let ends_ : let l = c.args.m.now in
+    let ends : let l = c.args.m.now in
     c.ends_at_root.result ≡ ends_at_root (head_in l 0) (head_in l (c.header-header.result.heads - 1)) =
     let l = c.args.m.now in
     c.ends_at_root.ensures
@@ -172,5 +172,5 @@ returns c =
     and_go _ _ header_
     (and_go _ _ (sym c.first_fine.ensures ∙ c.if-not-first_fine.false)
     (and_go _ _ (sym c.heads_fine.ensures ∙ c.if-not-heads_fine.false)
-    (and_go _ _ (sym ends_ ∙ c.if-not-ends_at_root.false) c.entries_fine.ensures)))
-    ∙ tests_
+    (and_go _ _ (sym ends ∙ c.if-not-ends_at_root.false) c.entries_fine.ensures)))
+    ∙ tests

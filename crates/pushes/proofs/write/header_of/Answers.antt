@@ -20,20 +20,20 @@ entries_in-listed-requires c =
 
 pub overflow_cast-result : goal.overflow_cast-result
 overflow_cast-result c =
-    let counted_ : c.entries_in-listed.result ≡ entries_in c.args.t.now c.entries_used.result c.args.r.head.id =
+    let counted : c.entries_in-listed.result ≡ entries_in c.args.t.now c.entries_used.result c.args.r.head.id =
     c.entries_in-listed.ensures in
     let used = c.entries_used in
     omega (
       arith,
       entries_few c.args.t.now c.args.r c.requires used.result c.entries_in-listed.result used.ensures.0
-          counted_,
+          counted,
     )
 
 pub returns : goal.returns
 returns c =
-    let counted_ : c.entries_in-listed.result ≡ entries_in c.args.t.now c.entries_used.result c.args.r.head.id =
+    let counted : c.entries_in-listed.result ≡ entries_in c.args.t.now c.entries_used.result c.args.r.head.id =
     c.entries_in-listed.ensures in
     let used = c.entries_used in
     header_told c.args.t.now c.args.r c.requires c.args.node _ _ used.result _
     c.get_u8-sender.ensures
-    c.head_count.ensures used.ensures.0 counted_
+    c.head_count.ensures used.ensures.0 counted

@@ -31,29 +31,29 @@ loop-i-init c =
 
 pub returns-then-d-eq0 : goal.returns-then-d-eq0
 returns-then-d-eq0 c =
-    let ended_ : let l = c.loop-i in
+    let ended : let l = c.loop-i in
     let a = c.args in
     left a.t.now a.most l.d l.i ≡ [] →
     l.out ≡ splice a.out.now 56 (rows head_bytes (chain_up a.most a.directory (table_of a.t.now))) =
     λ e. rows_end head_bytes c.loop-i.out _ e ∙ c.loop-i.invariant.3 in
-    ended_ (chain_root _ c.loop-i.d _ c.if-d-eq0.true)
+    ended (chain_root _ c.loop-i.d _ c.if-d-eq0.true)
 
 pub returns-in_default : goal.returns-in_default
 returns-in_default c =
-    let ended_ : let l = c.loop-i in
+    let ended : let l = c.loop-i in
     let a = c.args in
     left a.t.now a.most l.d l.i ≡ [] →
     l.out ≡ splice a.out.now 56 (rows head_bytes (chain_up a.most a.directory (table_of a.t.now))) =
     λ e. rows_end head_bytes c.loop-i.out _ e ∙ c.loop-i.invariant.3 in
     let used = c.replicas_used-m in
-    ended_
+    ended
     (chain_gone _ c.loop-i.d _
     (not_found c.args.t.now used.result c.loop-i.d used.ensures.0
     (sym c.replica-found.ensures ∙ c.in_default.is)))
 
 pub overflow_mul-s : goal.overflow_mul-s
 overflow_mul-s c =
-    let found_ : let l = c.loop-i in
+    let found : let l = c.loop-i in
     let a = c.args in
     let h = head_at a.t.now (replica_slot c.in-At.s) in
     (c.in-At.s < 64)
@@ -67,11 +67,11 @@ overflow_mul-s c =
       omega (arith, f.0, used.ensures.1),
       chain_up_law a.most l.i l.d (table_of a.t.now) _ c.loop-i-test.true c.if-d-eq0.false f.1,
     ) in
-    omega (arith, found_.0)
+    omega (arith, found.0)
 
 pub overflow_add-s : goal.overflow_add-s
 overflow_add-s c =
-    let found_ : let l = c.loop-i in
+    let found : let l = c.loop-i in
     let a = c.args in
     let h = head_at a.t.now (replica_slot c.in-At.s) in
     (c.in-At.s < 64)
@@ -85,11 +85,11 @@ overflow_add-s c =
       omega (arith, f.0, used.ensures.1),
       chain_up_law a.most l.i l.d (table_of a.t.now) _ c.loop-i-test.true c.if-d-eq0.false f.1,
     ) in
-    omega (arith, found_.0)
+    omega (arith, found.0)
 
 pub read-h-requires : goal.read-h-requires
 read-h-requires c =
-    let found_ : let l = c.loop-i in
+    let found : let l = c.loop-i in
     let a = c.args in
     let h = head_at a.t.now (replica_slot c.in-At.s) in
     (c.in-At.s < 64)
@@ -103,11 +103,11 @@ read-h-requires c =
       omega (arith, f.0, used.ensures.1),
       chain_up_law a.most l.i l.d (table_of a.t.now) _ c.loop-i-test.true c.if-d-eq0.false f.1,
     ) in
-    omega (arith, found_.0)
+    omega (arith, found.0)
 
 pub write-requires : goal.write-requires
 write-requires c =
-    let found_ : let l = c.loop-i in
+    let found : let l = c.loop-i in
     let a = c.args in
     let h = head_at a.t.now (replica_slot c.in-At.s) in
     (c.in-At.s < 64)
@@ -121,11 +121,11 @@ write-requires c =
       omega (arith, f.0, used.ensures.1),
       chain_up_law a.most l.i l.d (table_of a.t.now) _ c.loop-i-test.true c.if-d-eq0.false f.1,
     ) in
-    omega (arith, ap length found_.1, c.loop-i.invariant.1, c.loop-i.invariant.2)
+    omega (arith, ap length found.1, c.loop-i.invariant.1, c.loop-i.invariant.2)
 
 pub loop-i-preserved : goal.loop-i-preserved
 loop-i-preserved c =
-    let found_ : let l = c.loop-i in
+    let found : let l = c.loop-i in
     let a = c.args in
     let h = head_at a.t.now (replica_slot c.in-At.s) in
     (c.in-At.s < 64)
@@ -143,7 +143,7 @@ loop-i-preserved c =
     let a = c.args in
     let h = c.read-h.result in
     let rest : Head → List Head = λ (g : Head). g ∷ left a.t.now a.most g.directory (l.i + 1) in
-    let up = found_.1 ∙ ap rest (sym c.read-h.ensures) in
+    let up = found.1 ∙ ap rest (sym c.read-h.ensures) in
     let count = ap length up in (
       omega arith,
       omega (arith, l.invariant.1),
@@ -160,9 +160,9 @@ loop-i-preserved c =
 
 pub returns : goal.returns
 returns c =
-    let ended_ : let l = c.loop-i in
+    let ended : let l = c.loop-i in
     let a = c.args in
     left a.t.now a.most l.d l.i ≡ [] →
     l.out ≡ splice a.out.now 56 (rows head_bytes (chain_up a.most a.directory (table_of a.t.now))) =
     λ e. rows_end head_bytes c.loop-i.out _ e ∙ c.loop-i.invariant.3 in
-    ended_ (chain_end _ c.loop-i.i c.loop-i.d _ c.loop-i-test.false)
+    ended (chain_end _ c.loop-i.i c.loop-i.d _ c.loop-i-test.false)

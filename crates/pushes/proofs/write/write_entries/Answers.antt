@@ -19,7 +19,7 @@ loop-i-init c = (omega arith, refl, refl, refl)
 
 pub write_slot-at-requires : goal.write_slot-at-requires
 write_slot-at-requires c =
-    let room_ : let a = c.args in
+    let room : let a = c.args in
     a.o + 32 * length (listed_from a.t.now a.directory c.entries_used-k.result 0)
     ≤ length a.out.now =
     let a = c.args in
@@ -28,7 +28,7 @@ write_slot-at-requires c =
       ap length (listed_all a.t.now a.directory _ c.entries_used-k.ensures.0),
       c.requires.1,
     ) in
-    let count_ : let a = c.args in
+    let count : let a = c.args in
     let k = c.entries_used-k.result in
     let i = c.loop-i.i in
     length (listed_from a.t.now a.directory k i)
@@ -41,12 +41,12 @@ write_slot-at-requires c =
     let used = c.entries_used-k.ensures in (
       omega arith,
       omega (arith, used.1, c.loop-i-test.true),
-      omega (arith, count_, room_, l.invariant.1, l.invariant.2),
+      omega (arith, count, room, l.invariant.1, l.invariant.2),
     )
 
 pub loop-i-preserved : goal.loop-i-preserved
 loop-i-preserved c =
-    let room_ : let a = c.args in
+    let room : let a = c.args in
     a.o + 32 * length (listed_from a.t.now a.directory c.entries_used-k.result 0)
     ≤ length a.out.now =
     let a = c.args in
@@ -55,7 +55,7 @@ loop-i-preserved c =
       ap length (listed_all a.t.now a.directory _ c.entries_used-k.ensures.0),
       c.requires.1,
     ) in
-    let count_ : let a = c.args in
+    let count : let a = c.args in
     let k = c.entries_used-k.result in
     let i = c.loop-i.i in
     length (listed_from a.t.now a.directory k i)
@@ -69,7 +69,7 @@ loop-i-preserved c =
     let k = c.entries_used-k.result in
     let here = listed_at a.t.now a.directory l.i in
     let rest = listed_from a.t.now a.directory k (l.i + 1) in
-    let more = count_ in (
+    let more = count in (
       omega arith,
       omega (arith, l.invariant.1),
       omega (arith, c.write_slot-at.ensures.0, l.invariant.2),
@@ -77,7 +77,7 @@ loop-i-preserved c =
           ∙ ap (λ (at : ℕ). splice (splice l.out l.at (rows entry_bytes here)) at (rows entry_bytes rest))
           c.write_slot-at.ensures.0
           ∙ rows_written entry_bytes 32 length_entry_bytes l.out l.at here rest
-          (omega (arith, room_, l.invariant.1, l.invariant.2))
+          (omega (arith, room, l.invariant.1, l.invariant.2))
           ∙ ap (λ (es : List Entry). splice l.out l.at (rows entry_bytes es))
           (sym (listed_step a.t.now a.directory k l.i c.loop-i-test.true))
           ∙ l.invariant.3,

@@ -23,22 +23,22 @@ returns-then-get_u32-directory c =
 
 pub write-requires : goal.write-requires
 write-requires c =
-    let listed_ : let a = c.args in
+    let listed : let a = c.args in
     listed_at a.t.now a.directory a.s ≡ entry_at a.t.now (entry_slot a.s) ∷ [] =
     let a = c.args in
     is_listed_law a.t.now a.directory a.s
     (eq-eqb _ _ (directory_at a.t.now a.s ∙ sym c.get_u32.ensures ∙ c.if-get_u32-directory.false)) in
-    omega (arith, ap length listed_)
+    omega (arith, ap length listed)
 
 pub returns : goal.returns
 returns c =
-    let listed_ : let a = c.args in
+    let listed : let a = c.args in
     listed_at a.t.now a.directory a.s ≡ entry_at a.t.now (entry_slot a.s) ∷ [] =
     let a = c.args in
     is_listed_law a.t.now a.directory a.s
     (eq-eqb _ _ (directory_at a.t.now a.s ∙ sym c.get_u32.ensures ∙ c.if-get_u32-directory.false)) in
     let a = c.args in
-    let one = listed_ in (
+    let one = listed in (
       omega (arith, ap length one),
       c.write.ensures
           ∙ ap (λ (e : Entry). splice a.out.now a.o (entry_bytes e)) c.read-e.ensures

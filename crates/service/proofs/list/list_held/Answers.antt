@@ -33,7 +33,7 @@ returns-then-h-ne2 c =
 
 pub returns-then-out-n : goal.returns-then-out-n
 returns-then-out-n c =
-    let counted_ : let a = c.args in
+    let counted : let a = c.args in
     length (listing a.id (table_of a.t.now).entries) ≡ c.shown_in-n.result =
     let a = c.args in
     ap length (shown_of a.t.now a.id _ c.entries_used-k.ensures.0) ∙ sym c.shown_in-n.ensures.0 in
@@ -41,11 +41,11 @@ returns-then-out-n c =
     refused_out a.out.now 3
     (list_small a.id (length a.out.now) (table_of a.t.now) a.h
     c.requires.1
-    (eq-eqb _ _ c.if-h-ne2.false) (omega (arith, counted_, c.if-out-n.true)))
+    (eq-eqb _ _ c.if-h-ne2.false) (omega (arith, counted, c.if-out-n.true)))
 
 pub returns-then-h-ne1-2 : goal.returns-then-h-ne1-2
 returns-then-h-ne1-2 c =
-    let counted_ : let a = c.args in
+    let counted : let a = c.args in
     length (listing a.id (table_of a.t.now).entries) ≡ c.shown_in-n.result =
     let a = c.args in
     ap length (shown_of a.t.now a.id _ c.entries_used-k.ensures.0) ∙ sym c.shown_in-n.ensures.0 in
@@ -54,11 +54,11 @@ returns-then-h-ne1-2 c =
     (list_dead a.id (length a.out.now) (table_of a.t.now) a.h
     c.requires.1
     (eq-eqb _ _ c.if-h-ne2.false)
-    (omega (arith, counted_, c.if-out-n.false)) (ne_eqb _ _ c.if-h-ne1-2.true))
+    (omega (arith, counted, c.if-out-n.false)) (ne_eqb _ _ c.if-h-ne1-2.true))
 
 pub returns : goal.returns
 returns c =
-    let counted_ : let a = c.args in
+    let counted : let a = c.args in
     length (listing a.id (table_of a.t.now).entries) ≡ c.shown_in-n.result =
     let a = c.args in
     ap length (shown_of a.t.now a.id _ c.entries_used-k.ensures.0) ∙ sym c.shown_in-n.ensures.0 in
@@ -69,9 +69,9 @@ returns c =
     done_out a.out.now _ _ _
     (list_done a.id (length a.out.now) (table_of a.t.now) a.h held
     (eq-eqb _ _ c.if-h-ne2.false)
-    (omega (arith, counted_, c.if-out-n.false))
+    (omega (arith, counted, c.if-out-n.false))
     (eq-eqb _ _ c.if-h-ne1-2.false)) in (
-      ap (λ (v : ℕ). record { number = 0; value = v }) (sym counted_) ∙ done.0,
+      ap (λ (v : ℕ). record { number = 0; value = v }) (sym counted) ∙ done.0,
       c.write_shown.ensures.1
           ∙ ap (λ (es : List Entry). splice a.out.now 0 (rows entry_bytes es)) (sym shown) ∙ done.1,
     )

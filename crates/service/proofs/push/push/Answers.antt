@@ -41,21 +41,21 @@ pub returns-then-not-is_node : goal.returns-then-not-is_node
 returns-then-not-is_node c =
     let sound_ : sound_bytes c.args.table.now ≡ true =
     (sym c.is_sound.ensures ∙ c.if-not-is_sound.false) in
-    let opened_ : let a = c.args in
+    let opened : let a = c.args in
     push a.table.now a.id a.node (length a.out.now)
     ≡ push_in a.id a.node (length a.out.now) (table_of a.table.now) =
     let a = c.args in
     is_sound _ (push_in a.id a.node (length a.out.now)) sound_ in
-    let judged_ : let a = c.args in
+    let judged : let a = c.args in
     c.is_node.result ≡ is_node (table_of a.table.now).nodes a.node =
     let a = c.args in
     c.is_node.ensures
     ∙ ap (λ (n : ℕ). is_node n a.node) (c.get_u8.ensures ∙ nodes_at a.table.now) in
     let a = c.args in
     refused_out a.out.now 2
-    (opened_
+    (opened
     ∙ push_no_node a.id a.node (length a.out.now) (table_of a.table.now)
-    (sym judged_ ∙ c.if-not-is_node.true))
+    (sym judged ∙ c.if-not-is_node.true))
 
 pub get_u8-requires-2 : goal.get_u8-requires-2
 get_u8-requires-2 c =
@@ -67,26 +67,26 @@ pub returns-then-node-get_u8 : goal.returns-then-node-get_u8
 returns-then-node-get_u8 c =
     let sound_ : sound_bytes c.args.table.now ≡ true =
     (sym c.is_sound.ensures ∙ c.if-not-is_sound.false) in
-    let opened_ : let a = c.args in
+    let opened : let a = c.args in
     push a.table.now a.id a.node (length a.out.now)
     ≡ push_in a.id a.node (length a.out.now) (table_of a.table.now) =
     let a = c.args in
     is_sound _ (push_in a.id a.node (length a.out.now)) sound_ in
-    let judged_ : let a = c.args in
+    let judged : let a = c.args in
     c.is_node.result ≡ is_node (table_of a.table.now).nodes a.node =
     let a = c.args in
     c.is_node.ensures
     ∙ ap (λ (n : ℕ). is_node n a.node) (c.get_u8.ensures ∙ nodes_at a.table.now) in
     let member_ : let a = c.args in
     is_node (table_of a.table.now).nodes a.node ≡ true =
-    (sym judged_ ∙ c.if-not-is_node.false) in
-    let own_ : c.get_u8-2.result ≡ (table_of c.args.table.now).own =
+    (sym judged ∙ c.if-not-is_node.false) in
+    let own : c.get_u8-2.result ≡ (table_of c.args.table.now).own =
     c.get_u8-2.ensures ∙ own_at _ in
     let a = c.args in
     refused_out a.out.now 2
-    (opened_
+    (opened
     ∙ push_to_own a.id a.node (length a.out.now) (table_of a.table.now) member_
-    (eq-eqb _ _ (c.if-node-get_u8.true ∙ own_)))
+    (eq-eqb _ _ (c.if-node-get_u8.true ∙ own)))
 
 pub slot_of-found-requires : goal.slot_of-found-requires
 slot_of-found-requires c =
@@ -98,28 +98,28 @@ pub returns-in_default : goal.returns-in_default
 returns-in_default c =
     let sound_ : sound_bytes c.args.table.now ≡ true =
     (sym c.is_sound.ensures ∙ c.if-not-is_sound.false) in
-    let opened_ : let a = c.args in
+    let opened : let a = c.args in
     push a.table.now a.id a.node (length a.out.now)
     ≡ push_in a.id a.node (length a.out.now) (table_of a.table.now) =
     let a = c.args in
     is_sound _ (push_in a.id a.node (length a.out.now)) sound_ in
-    let judged_ : let a = c.args in
+    let judged : let a = c.args in
     c.is_node.result ≡ is_node (table_of a.table.now).nodes a.node =
     let a = c.args in
     c.is_node.ensures
     ∙ ap (λ (n : ℕ). is_node n a.node) (c.get_u8.ensures ∙ nodes_at a.table.now) in
     let member_ : let a = c.args in
     is_node (table_of a.table.now).nodes a.node ≡ true =
-    (sym judged_ ∙ c.if-not-is_node.false) in
-    let own_ : c.get_u8-2.result ≡ (table_of c.args.table.now).own =
+    (sym judged ∙ c.if-not-is_node.false) in
+    let own : c.get_u8-2.result ≡ (table_of c.args.table.now).own =
     c.get_u8-2.ensures ∙ own_at _ in
     let apart_ : let a = c.args in
     eqb a.node (table_of a.table.now).own ≡ false =
-    ne_eqb _ _ (λ e. c.if-node-get_u8.false (e ∙ sym own_)) in
+    ne_eqb _ _ (λ e. c.if-node-get_u8.false (e ∙ sym own)) in
     let a = c.args in
     let known = c.shared_slice_known-1 in
     refused_out a.out.now 6
-    (opened_
+    (opened
     ∙ push_not_held a.id a.node (length a.out.now) (table_of a.table.now) member_ apart_
     (none_held _ (slot_none a.table.now a.id (λ i. omega (arith, known.given i))
     (sym c.slot_of-found.ensures ∙ c.in_default.is))))
@@ -169,14 +169,14 @@ pub overflow_cast-node : goal.overflow_cast-node
 overflow_cast-node c =
     let sound_ : sound_bytes c.args.table.now ≡ true =
     (sym c.is_sound.ensures ∙ c.if-not-is_sound.false) in
-    let judged_ : let a = c.args in
+    let judged : let a = c.args in
     c.is_node.result ≡ is_node (table_of a.table.now).nodes a.node =
     let a = c.args in
     c.is_node.ensures
     ∙ ap (λ (n : ℕ). is_node n a.node) (c.get_u8.ensures ∙ nodes_at a.table.now) in
     let member_ : let a = c.args in
     is_node (table_of a.table.now).nodes a.node ≡ true =
-    (sym judged_ ∙ c.if-not-is_node.false) in
+    (sym judged ∙ c.if-not-is_node.false) in
     let a = c.args in
     omega (arith, node_small a.table.now a.node sound_ member_)
 
@@ -184,19 +184,19 @@ pub push_held-requires : goal.push_held-requires
 push_held-requires c =
     let sound_ : sound_bytes c.args.table.now ≡ true =
     (sym c.is_sound.ensures ∙ c.if-not-is_sound.false) in
-    let judged_ : let a = c.args in
+    let judged : let a = c.args in
     c.is_node.result ≡ is_node (table_of a.table.now).nodes a.node =
     let a = c.args in
     c.is_node.ensures
     ∙ ap (λ (n : ℕ). is_node n a.node) (c.get_u8.ensures ∙ nodes_at a.table.now) in
     let member_ : let a = c.args in
     is_node (table_of a.table.now).nodes a.node ≡ true =
-    (sym judged_ ∙ c.if-not-is_node.false) in
-    let own_ : c.get_u8-2.result ≡ (table_of c.args.table.now).own =
+    (sym judged ∙ c.if-not-is_node.false) in
+    let own : c.get_u8-2.result ≡ (table_of c.args.table.now).own =
     c.get_u8-2.ensures ∙ own_at _ in
     let apart_ : let a = c.args in
     eqb a.node (table_of a.table.now).own ≡ false =
-    ne_eqb _ _ (λ e. c.if-node-get_u8.false (e ∙ sym own_)) in
+    ne_eqb _ _ (λ e. c.if-node-get_u8.false (e ∙ sym own)) in
     let found_ : let a = c.args in
     let r = replica_in a.table.now c.in-At.s in
     (c.in-At.s < 64) × (r.head.id ≡ a.id) × (find a.id (table_of a.table.now).replicas ≡ some r)
@@ -220,7 +220,7 @@ pub returns : goal.returns
 returns c =
     let sound_ : sound_bytes c.args.table.now ≡ true =
     (sym c.is_sound.ensures ∙ c.if-not-is_sound.false) in
-    let opened_ : let a = c.args in
+    let opened : let a = c.args in
     push a.table.now a.id a.node (length a.out.now)
     ≡ push_in a.id a.node (length a.out.now) (table_of a.table.now) =
     let a = c.args in
@@ -237,7 +237,7 @@ returns c =
     let a = c.args in
     let id = ap (λ (r : Replica). r.head.id) c.read.ensures ∙ found_.1 in
     let call : push_in _ a.node (length a.out.now) (table_of a.table.now) ≡ push a.table.now a.id a.node (length a.out.now) =
-    ap (λ (i : ℕ). push_in i a.node (length a.out.now) (table_of a.table.now)) id ∙ sym opened_ in (
+    ap (λ (i : ℕ). push_in i a.node (length a.out.now) (table_of a.table.now)) id ∙ sym opened in (
       c.push_held.ensures.0 ∙ ap answer_of call,
       c.push_held.ensures.1 ∙ ap (λ (o : Outcome). output_after o a.out.now) call,
     )

@@ -18,34 +18,34 @@ header_of-header-requires c = c.requires.held
 
 pub returns-then-out-size : goal.returns-then-out-size
 returns-then-out-size c =
-    let size_ : let a = c.args in
+    let size : let a = c.args in
     c.size_of-size.result ≡ length (message_bytes (push_of_held a.t.now a.r a.node)) =
     c.size_of-size.ensures ∙ size_told _ _ c.header_of-header.ensures in
     refused_out c.args.out.now 3
     (push_small c.args.r.head.id c.args.node (length c.args.out.now) (table_of c.args.t.now)
-    c.requires.member c.requires.apart c.args.r c.requires.held.found (omega (arith, size_, c.if-out-size.true)))
+    c.requires.member c.requires.apart c.args.r c.requires.held.found (omega (arith, size, c.if-out-size.true)))
 
 pub returns-then-not-has : goal.returns-then-not-has
 returns-then-not-has c =
-    let size_ : let a = c.args in
+    let size : let a = c.args in
     c.size_of-size.result ≡ length (message_bytes (push_of_held a.t.now a.r a.node)) =
     c.size_of-size.ensures ∙ size_told _ _ c.header_of-header.ensures in
     refused_out c.args.out.now 14
     (push_told c.args.r.head.id c.args.node (length c.args.out.now) (table_of c.args.t.now)
     c.requires.member c.requires.apart c.args.r c.requires.held.found
-    (omega (arith, size_, c.if-out-size.false)) (sym c.has.ensures ∙ c.if-not-has.true))
+    (omega (arith, size, c.if-out-size.false)) (sym c.has.ensures ∙ c.if-not-has.true))
 
 pub write-requires : goal.write-requires
 write-requires c =
-    let size_ : let a = c.args in
+    let size : let a = c.args in
     c.size_of-size.result ≡ length (message_bytes (push_of_held a.t.now a.r a.node)) =
     c.size_of-size.ensures ∙ size_told _ _ c.header_of-header.ensures in
     written c.args.t.now c.args.r c.args.node _ _ c.requires.held c.header_of-header.ensures
-    (omega (arith, size_, c.if-out-size.false))
+    (omega (arith, size, c.if-out-size.false))
 
 pub returns : goal.returns
 returns c =
-    let size_ : let a = c.args in
+    let size : let a = c.args in
     c.size_of-size.result ≡ length (message_bytes (push_of_held a.t.now a.r a.node)) =
     c.size_of-size.ensures ∙ size_told _ _ c.header_of-header.ensures in
     let l = c.args.t.now in
@@ -54,9 +54,9 @@ returns c =
     let done =
     done_out c.args.out.now _ _ _
     (push_done r.head.id c.args.node (length c.args.out.now) (table_of l) c.requires.member c.requires.apart r
-    c.requires.held.found (omega (arith, size_, c.if-out-size.false))
+    c.requires.held.found (omega (arith, size, c.if-out-size.false))
     (sym c.has.ensures ∙ c.if-not-has.false)) in (
-      ap (λ (v : ℕ). record { number = 0; value = v }) size_ ∙ done.0,
+      ap (λ (v : ℕ). record { number = 0; value = v }) size ∙ done.0,
       c.write.ensures
           ∙ ap (λ (m : ℕ). splice c.args.out.now 0 (message_bytes (push_of_held l r m))) to ∙ done.1,
     )
