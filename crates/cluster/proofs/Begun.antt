@@ -20,10 +20,10 @@ use Rattle.kept.specs.Shapes.{full_fresh}
 use Rattle.kept.specs.Kept.{Left, sound_bytes_law}
 use Rattle.kept.specs.Starts.{sound_fresh}
 use Rattle.cluster.specs.Cluster.{Node, Cluster, Call, creates, unlinks, renames, removes, spreads, lists, pushes, receives, hears, counts, answer, sends, issues, Handed, after, begun, Later, same, starts, more, idle, Started}
-use Rattle.cluster.proofs.Ranks.{Covers, leq_refl}
-use Rattle.cluster.proofs.Invariants.{Inv}
-use Rattle.cluster.proofs.Facts.{facts_at}
-use Rattle.cluster.proofs.Reached.{table_back, world, Reached}
+use Rattle.cluster.specs.Ranks.{Covers, leq_refl}
+use Rattle.cluster.specs.Invariants.{Inv}
+use Rattle.cluster.specs.Facts.{facts_at}
+use Rattle.cluster.specs.Reached.{table_back, world, Reached}
 use Rattle.cluster.proofs.Makes.{makes}
 
 -- a node is in range

@@ -27,7 +27,7 @@ use Rattle.kept.specs.MessageFacts.{message_says, table_agrees}
 use Rattle.kept.specs.ReceiveJoins.{after_E, shown_E}
 use Rattle.kept.specs.ReceiveLive.{nonroot_dead, mends}
 use Rattle.cluster.specs.Cluster.{State, state_of, stated, placed, made_live, mended, mended_all, received_states, Call, creates, unlinks, renames, removes, spreads, lists, pushes, receives, hears, counts, draws}
-use Rattle.cluster.proofs.Accepted.{answer_in, Creates, creates_is, Kills, unlinks_is, removes_is, Renames, renames_is, Takes, takes_is, receives_is}
+use Rattle.cluster.specs.Accepted.{answer_in, Creates, creates_is, Kills, unlinks_is, removes_is, Renames, renames_is, Takes, takes_is, receives_is}
 
 -- the state stands in the table
 pub record Stands (u : Table) (x : State) : Type 0 where

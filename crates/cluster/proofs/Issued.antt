@@ -9,9 +9,9 @@ use Rattle.document.specs.Outcomes.{Outcome, refused, done, table_after}
 use Rattle.views.specs.Lists.{In}
 use Rattle.views.specs.Sounds.{sound_table}
 use Rattle.cluster.specs.Cluster.{Node, State, Cluster, Call, answer, issues, after, Later, same, starts, more, idle}
-use Rattle.cluster.proofs.Accepted.{on_table}
+use Rattle.cluster.specs.Accepted.{on_table}
 use Rattle.cluster.proofs.Drawn.{Stands, drawn_stands}
-use Rattle.cluster.proofs.Reached.{table_back}
+use Rattle.cluster.specs.Reached.{table_back}
 use Rattle.cluster.proofs.Makes.{left}
 use Rattle.cluster.proofs.Begun.{awake, sized, reached}
 use Rattle.cluster.proofs.Theorem.{always_sound}

@@ -21,15 +21,15 @@ use Rattle.kept.specs.Accepted.{done_table}
 use Rattle.kept.specs.Kept.{Left, list_same, create_left, unlink_left, rename_left, remove_left, spread_left, list_left, push_left, acknowledged_left, pending_left}
 use Rattle.kept.specs.ReceiveSound.{receive_left}
 use Rattle.cluster.specs.Cluster.{Node, State, Cluster, Call, creates, unlinks, renames, removes, spreads, lists, pushes, receives, hears, counts, answer, sends, draws, issues, received_states, Handed, after}
-use Rattle.cluster.proofs.Invariants.{World, Facts, Inv}
-use Rattle.cluster.proofs.Settle.{Nobody}
-use Rattle.cluster.proofs.Keeps.{Done, keeps}
-use Rattle.cluster.proofs.Issue.{Ready}
-use Rattle.cluster.proofs.Users.{ready_of, done_of, Went, went_create, went_kill, went_rename, went_spread}
-use Rattle.cluster.proofs.Net.{writes_keep, hears_keep}
-use Rattle.cluster.proofs.Receive.{takes_keep}
-use Rattle.cluster.proofs.Accepted.{answer_in, on_table, creates_is, unlinks_is, removes_is, renames_is, spreads_is, writes_is, takes_is, receives_is, Hears, hears_is, acknowledges_is}
-use Rattle.cluster.proofs.Reached.{Letter, push_letter, ack_letter, world, Reached, moved, stands, lands}
+use Rattle.cluster.specs.Invariants.{World, Facts, Inv}
+use Rattle.cluster.specs.Settle.{Nobody}
+use Rattle.cluster.specs.Keeps.{Done, keeps}
+use Rattle.cluster.specs.Issue.{Ready}
+use Rattle.cluster.specs.Users.{ready_of, done_of, Went, went_create, went_kill, went_rename, went_spread}
+use Rattle.cluster.specs.Net.{writes_keep, hears_keep}
+use Rattle.cluster.specs.Receive.{takes_keep}
+use Rattle.cluster.specs.Accepted.{answer_in, on_table, creates_is, unlinks_is, removes_is, renames_is, spreads_is, writes_is, takes_is, receives_is, Hears, hears_is, acknowledges_is}
+use Rattle.cluster.specs.Reached.{Letter, push_letter, ack_letter, world, Reached, moved, stands, lands}
 
 -- what every accepted call leaves is sound, bytes and table
 pub left : (k : Call) (l : List ℕ) (v : ℕ) (u : Table) (w : List ℕ) → answer k l ≡ done v u w → Left u

@@ -14,10 +14,10 @@ use Rattle.views.specs.Lists.{In}
 use Rattle.views.specs.Puts.{pending_of, find_in, find_member}
 use Rattle.views.specs.Sounds.{Sound, sound_table}
 use Rattle.cluster.specs.Cluster.{Cluster, Quiet}
-use Rattle.cluster.proofs.Sets.{empty_set, no_size}
-use Rattle.cluster.proofs.Facts.{facts_of}
-use Rattle.cluster.proofs.Final.{Silent}
-use Rattle.cluster.proofs.Reached.{world, Reached}
+use Rattle.cluster.specs.Sets.{empty_set, no_size}
+use Rattle.cluster.specs.Facts.{facts_of}
+use Rattle.cluster.specs.Final.{Silent}
+use Rattle.cluster.specs.Reached.{world, Reached}
 
 -- the sum is 0 exactly if every pending set has no size
 sum_none : (l : List Replica) → pending_sum l ≡ 0 → (r : Replica) → In r l → members 8 r.pending ≡ 0

@@ -27,8 +27,8 @@ use Rattle.views.specs.Lists.{In}
 use Rattle.kept.specs.Kept.{Left, start_left}
 use Rattle.kept.specs.Accepted.{table_in}
 use Rattle.cluster.specs.Cluster.{Node, Cluster, Call, creates, renames, pushes, receives, hears, counts, answer, sends, Handed, after, begun, Later, same, starts, more, idle, Started, Quiet, Agreed}
-use Rattle.cluster.proofs.Accepted.{answer_in, answer_in_law}
-use Rattle.cluster.proofs.Reached.{table_back}
+use Rattle.cluster.specs.Accepted.{answer_in, answer_in_law}
+use Rattle.cluster.specs.Reached.{table_back}
 use Rattle.cluster.proofs.Makes.{left}
 use Rattle.cluster.proofs.Theorem.{demand_3}
 

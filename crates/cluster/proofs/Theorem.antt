@@ -8,9 +8,9 @@ use Rattle.document.specs.Sound.{sound_bytes}
 use Rattle.document.specs.Outcomes.{value_of}
 use Rattle.document.specs.Calls.{pending}
 use Rattle.cluster.specs.Cluster.{Node, Cluster, Later, idle, Started, Quiet, Demand3, Agreed, Convergence}
-use Rattle.cluster.proofs.Facts.{node_is}
-use Rattle.cluster.proofs.Final.{demand3}
-use Rattle.cluster.proofs.Reached.{world, Reached}
+use Rattle.cluster.specs.Facts.{node_is}
+use Rattle.cluster.specs.Final.{demand3}
+use Rattle.cluster.specs.Reached.{world, Reached}
 use Rattle.cluster.proofs.Quiet.{silent, Empty, pending_empty}
 use Rattle.cluster.proofs.Begun.{ghost, woken, awake, sized, all_sized, reached}
 

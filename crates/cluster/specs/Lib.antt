@@ -1,1 +1,16 @@
+pub mod Accepted
+pub mod Adds
 pub mod Cluster
+pub mod Directory
+pub mod Facts
+pub mod Final
+pub mod Invariants
+pub mod Issue
+pub mod Keeps
+pub mod Net
+pub mod Ranks
+pub mod Reached
+pub mod Receive
+pub mod Sets
+pub mod Settle
+pub mod Users

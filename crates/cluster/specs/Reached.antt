@@ -19,8 +19,8 @@ use Rattle.document.specs.ReadingMessages.{message_fits, read_some, length_messa
 use Rattle.views.specs.Lists.{In, some_only, not_none}
 use Rattle.views.specs.ReadBack.{ack_read_back}
 use Rattle.cluster.specs.Cluster.{Node, State, Cluster}
-use Rattle.cluster.proofs.Invariants.{World, Inv}
-use Rattle.cluster.proofs.Keeps.{upd}
+use Rattle.cluster.specs.Invariants.{World, Inv}
+use Rattle.cluster.specs.Keeps.{upd}
 use Rattle.kept.specs.Shapes.{shaped_of}
 use Rattle.kept.specs.Kept.{Left}
 

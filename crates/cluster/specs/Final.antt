@@ -20,9 +20,9 @@ use Rattle.views.specs.Sets.{set_ext}
 use Rattle.views.specs.Joins.{Key, entry_key, entry_in, entry_found, entry_member, in_entries, entries_in_law}
 use Rattle.views.specs.Sounds.{sound_is}
 use Rattle.cluster.specs.Cluster.{Node, State, state_of, Holds, Shown, LivesAt, Path, top, down, Demand3}
-use Rattle.cluster.proofs.Ranks.{rank_o, hold_o, mark_o, rank, mark, pend, Covers, leq_refl, leq_trans, held}
-use Rattle.cluster.proofs.Invariants.{World, Facts, is_at, True, makers, Inv}
-use Rattle.cluster.proofs.Sets.{in_range_law}
+use Rattle.cluster.specs.Ranks.{rank_o, hold_o, mark_o, rank, mark, pend, Covers, leq_refl, leq_trans, held}
+use Rattle.cluster.specs.Invariants.{World, Facts, is_at, True, makers, Inv}
+use Rattle.cluster.specs.Sets.{in_range_law}
 
 -- no node has anything pending
 abbrev pub Silent : World → Type 0

@@ -21,14 +21,14 @@ use Rattle.views.specs.Puts.{head_id, head_own, head_put_same, head_put_other, p
 use Rattle.views.specs.Sets.{has_join_left}
 use Rattle.views.specs.Settles.{head_settle, settle_entries, settle_nodes, settle_highest}
 use Rattle.cluster.specs.Cluster.{Node, State, state_of, stated, placed, creates, renames, draws}
-use Rattle.cluster.proofs.Ranks.{rank_o, rank, hold_held}
-use Rattle.cluster.proofs.Invariants.{World, Facts, Remembers, Inv}
-use Rattle.cluster.proofs.Facts.{facts_at}
-use Rattle.cluster.proofs.Adds.{Up, up_put}
-use Rattle.cluster.proofs.Settle.{Nobody, settled}
-use Rattle.cluster.proofs.Keeps.{New, Done}
-use Rattle.cluster.proofs.Issue.{Ready, Goes, goes_issue, rem_same}
-use Rattle.cluster.proofs.Accepted.{Creates, Kills, Renames, Spreads}
+use Rattle.cluster.specs.Ranks.{rank_o, rank, hold_held}
+use Rattle.cluster.specs.Invariants.{World, Facts, Remembers, Inv}
+use Rattle.cluster.specs.Facts.{facts_at}
+use Rattle.cluster.specs.Adds.{Up, up_put}
+use Rattle.cluster.specs.Settle.{Nobody, settled}
+use Rattle.cluster.specs.Keeps.{New, Done}
+use Rattle.cluster.specs.Issue.{Ready, Goes, goes_issue, rem_same}
+use Rattle.cluster.specs.Accepted.{Creates, Kills, Renames, Spreads}
 
 -- ---- from the invariants, and back to them
 

@@ -16,7 +16,7 @@ use Rattle.views.specs.Puts.{pending_of, version_put, pending_put, head_put_same
 use Rattle.views.specs.Sets.{has_join_left}
 use Rattle.views.specs.Joins.{join_all_law}
 use Rattle.kept.specs.ReceiveAbove.{highest_least, seen_head}
-use Rattle.cluster.proofs.Ranks.{rank_o, hold_o, rank, vers, Covers, leq_refl, leq_trans, join_grows}
+use Rattle.cluster.specs.Ranks.{rank_o, hold_o, rank, vers, Covers, leq_refl, leq_trans, join_grows}
 
 -- u has all that t has, and the same versions and pending sets
 pub record Adds (t u : Table) : Type 0 where

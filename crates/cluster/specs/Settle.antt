@@ -14,9 +14,9 @@ use Rattle.document.specs.Receive.{listed_in}
 use Rattle.document.specs.Steps.{unchanged, raised, settle}
 use Rattle.views.specs.Puts.{version_of, pending_of, head_found, find_id}
 use Rattle.views.specs.Settles.{settled_in, settled_kept, settled_raised, find_settled, head_settle, settle_entries, settle_own, settle_nodes, settle_highest, unchanged_head, unchanged_entries}
-use Rattle.cluster.proofs.Ranks.{hold_o, vers, pend, Covers, leq_trans}
-use Rattle.cluster.proofs.Adds.{Adds}
-use Rattle.cluster.proofs.Directory.{inside_find}
+use Rattle.cluster.specs.Ranks.{hold_o, vers, pend, Covers, leq_trans}
+use Rattle.cluster.specs.Adds.{Adds}
+use Rattle.cluster.specs.Directory.{inside_find}
 
 -- unchanged: nothing more is known than before
 unchanged_covers : (old u : Table) (f : ℕ) (h : Head) → head_of u f ≡ some h → h.id ≡ f → unchanged old u h ≡ true →

@@ -21,15 +21,15 @@ use Rattle.views.specs.Joins.{join_all_same}
 use Rattle.views.specs.Takes.{merged_rank, merged_hold, merged_id, merged_new, merged_old, merged_live}
 use Rattle.kept.specs.ReceiveAbove.{above_held}
 use Rattle.cluster.specs.Cluster.{Node, State, state_of, mended_all, received_states}
-use Rattle.cluster.proofs.Ranks.{rank_o, rank, mark, Leq, leq_trans, held}
-use Rattle.cluster.proofs.Invariants.{World, True, AllTrue, TrueTable, TruePush, Remembers, Inv}
-use Rattle.cluster.proofs.Adds.{Adds, Up, up_trans, up_joins, up_step_a, seen_step_a, up_step_b, up_merged}
-use Rattle.cluster.proofs.Settle.{Nobody, covers_settle}
-use Rattle.cluster.proofs.Keeps.{Done, upd, upd_same, after, keeps}
-use Rattle.cluster.proofs.Issue.{joins_mark, true_joins, set_old, true_set, Ready, Goes, goes_trans, rem_same, rem_changed, goes_step_f}
-use Rattle.cluster.proofs.Users.{ready_of, done_of}
-use Rattle.cluster.proofs.Net.{answered, answers_keep}
-use Rattle.cluster.proofs.Accepted.{Takes}
+use Rattle.cluster.specs.Ranks.{rank_o, rank, mark, Leq, leq_trans, held}
+use Rattle.cluster.specs.Invariants.{World, True, AllTrue, TrueTable, TruePush, Remembers, Inv}
+use Rattle.cluster.specs.Adds.{Adds, Up, up_trans, up_joins, up_step_a, seen_step_a, up_step_b, up_merged}
+use Rattle.cluster.specs.Settle.{Nobody, covers_settle}
+use Rattle.cluster.specs.Keeps.{Done, upd, upd_same, after, keeps}
+use Rattle.cluster.specs.Issue.{joins_mark, true_joins, set_old, true_set, Ready, Goes, goes_trans, rem_same, rem_changed, goes_step_f}
+use Rattle.cluster.specs.Users.{ready_of, done_of}
+use Rattle.cluster.specs.Net.{answered, answers_keep}
+use Rattle.cluster.specs.Accepted.{Takes}
 
 -- ---- truth
 

@@ -23,10 +23,10 @@ use Rattle.views.specs.Puts.{head_id, head_own}
 use Rattle.views.specs.Joins.{Key, entry_key, entry_in, join_all_there, join_all_in}
 use Rattle.views.specs.Issues.{same_place_law, place_same, set_place, set_cases, issue_highest, issue_head_same, issue_head_other, issue_cases, issue_in}
 use Rattle.cluster.specs.Cluster.{State, state_of, stated, made_live, mended, mended_all}
-use Rattle.cluster.proofs.Ranks.{rank_o, hold_o, mark_o, rank, mark, held}
-use Rattle.cluster.proofs.Invariants.{True, AllTrue, TrueTable, One, Remembers}
-use Rattle.cluster.proofs.Adds.{Adds, adds_refl, adds_trans, Clocks, Up, up_issue}
-use Rattle.cluster.proofs.Keeps.{New, true_more}
+use Rattle.cluster.specs.Ranks.{rank_o, hold_o, mark_o, rank, mark, held}
+use Rattle.cluster.specs.Invariants.{True, AllTrue, TrueTable, One, Remembers}
+use Rattle.cluster.specs.Adds.{Adds, adds_refl, adds_trans, Clocks, Up, up_issue}
+use Rattle.cluster.specs.Keeps.{New, true_more}
 
 -- ---- joins: every entry joined is there with its stamp, and all is true
 

@@ -21,8 +21,8 @@ use Rattle.views.specs.Joins.{entry_key, entry_in, entry_found}
 use Rattle.views.specs.Sounds.{Sound, sound_is, not_root, root_held}
 use Rattle.kept.specs.Settled.{holders_fit}
 use Rattle.cluster.specs.Cluster.{Node}
-use Rattle.cluster.proofs.Ranks.{rank_o, mark_o, rank, mark, vers, held, entered}
-use Rattle.cluster.proofs.Invariants.{Facts, Placed, Entered as Enters}
+use Rattle.cluster.specs.Ranks.{rank_o, mark_o, rank, mark, vers, held, entered}
+use Rattle.cluster.specs.Invariants.{Facts, Placed, Entered as Enters}
 
 -- a node in range
 pub node_is : (n i : ℕ) → is_node n i ≡ true → Node n i

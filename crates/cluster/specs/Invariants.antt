@@ -17,7 +17,7 @@ use Rattle.document.specs.Messages.{Push}
 use Rattle.document.specs.Receive.{joined_in}
 use Rattle.views.specs.Lists.{In}
 use Rattle.cluster.specs.Cluster.{Node, State, state_of}
-use Rattle.cluster.proofs.Ranks.{hold_o, rank, mark, vers, pend, Leq, Covers}
+use Rattle.cluster.specs.Ranks.{hold_o, rank, mark, vers, pend, Leq, Covers}
 
 -- the nodes' tables, and the pushes and acknowledgements written
 pub record World : Type 0 where

@@ -9,9 +9,9 @@ use Rattle.document.specs.Tables.{Table, find, head_of}
 use Rattle.document.specs.Sound.{sound}
 use Rattle.views.specs.Lists.{In, same?, no_both}
 use Rattle.cluster.specs.Cluster.{Node, State, state_of}
-use Rattle.cluster.proofs.Ranks.{hold_o, vers, pend, Covers, leq_refl, leq_trans, held, hold_held, vers_held}
-use Rattle.cluster.proofs.Invariants.{World, Facts, K1, True, TrueTable, One, K2, K3, From, K4, K5, Remembers, K6, Inv}
-use Rattle.cluster.proofs.Settle.{Still, ToTell, Grows}
+use Rattle.cluster.specs.Ranks.{hold_o, vers, pend, Covers, leq_refl, leq_trans, held, hold_held, vers_held}
+use Rattle.cluster.specs.Invariants.{World, Facts, K1, True, TrueTable, One, K2, K3, From, K4, K5, Remembers, K6, Inv}
+use Rattle.cluster.specs.Settle.{Still, ToTell, Grows}
 
 -- ---- tables by node
 

@@ -21,13 +21,13 @@ use Rattle.views.specs.Maps.{on_found, find_map, head_map}
 use Rattle.views.specs.Chains.{chain_held}
 use Rattle.kept.specs.Clears.{cleared, clear_map, cleared_head, cleared_version}
 use Rattle.cluster.specs.Cluster.{Node, State, state_of}
-use Rattle.cluster.proofs.Ranks.{rank_o, vers, pend, Leq, Covers, leq_trans}
-use Rattle.cluster.proofs.Invariants.{World, TruePush, From, Inv}
-use Rattle.cluster.proofs.Facts.{facts_at}
-use Rattle.cluster.proofs.Directory.{inside_find, inside_in}
-use Rattle.cluster.proofs.Keeps.{Done, after, keeps}
-use Rattle.cluster.proofs.Users.{ready_of}
-use Rattle.cluster.proofs.Accepted.{Hears}
+use Rattle.cluster.specs.Ranks.{rank_o, vers, pend, Leq, Covers, leq_trans}
+use Rattle.cluster.specs.Invariants.{World, TruePush, From, Inv}
+use Rattle.cluster.specs.Facts.{facts_at}
+use Rattle.cluster.specs.Directory.{inside_find, inside_in}
+use Rattle.cluster.specs.Keeps.{Done, after, keeps}
+use Rattle.cluster.specs.Users.{ready_of}
+use Rattle.cluster.specs.Accepted.{Hears}
 
 -- a push more, an acknowledgement more
 abbrev pub wrote : World → Push → World
