@@ -2,7 +2,7 @@
  * rumbezalo.h: the name service's eleven calls, for C (C99) and C++ on x86-64 Linux.
  *
  * Link target/staticlib/libservice.a, which `.ci/library` writes. It needs nothing but
- * memcpy and memset.
+ * memcpy, memmove and memset.
  *
  * One to eight nodes share one tree. Each node lends a table of 13,344 bytes, which is all that it
  * remembers. A node changes its own table (create, unlink, rename, remove, spread), writes what it has

@@ -1,7 +1,7 @@
 -- Determinacy, over all public calls at once: no two differing outcomes satisfy the contract of a call. Each field below cites the
 -- contract that the call's function and its twin cite (`Promises`), for whatever bytes and numbers it is given, and says that an
 -- answer and what stands in the buffers lent are the only ones that satisfy it. It holds of the calls, which answer number and
--- value, and of their exported twins, which answer both in one number; `Contracts.packed_apart` (crate `answers`) has that such a
+-- value, and of their exported twins, which answer both in one number; `Forms.packed_apart` (crate `answers`) has that such a
 -- number is of one number and one value only. Assumes nothing.
 use Rattle.std.specs.Prelude.{◌≡◌, List, ℕ, length}
 use Rattle.std.proofs.Common.{sym, ◌∙◌}
