@@ -4,7 +4,6 @@ use Rattle.std.specs.Prelude.{◌≡◌, refl, ◌⊎◌, Bool, true, false, ◌
 use Rattle.std.proofs.Common.{ap, sym, ◌∙◌, inl, inr, arith, eq-eqb}
 use Rattle.std.proofs.Math.Path.{subst}
 use Rattle.std.proofs.Math.Option.{Option, some, none}
-use mathlib.Core.List.Memᴰ
 use Rattle.codec.specs.Lists.{and_true}
 use Rattle.names.specs.Names.{name_from}
 use Rattle.numbers.specs.Laws.{size_most}
@@ -28,6 +27,7 @@ use Rattle.kept.specs.ReceiveJoins.{after_E, shown_E}
 use Rattle.kept.specs.ReceiveLive.{nonroot_dead, mends}
 use Rattle.cluster.specs.Cluster.{State, state_of, stated, placed, made_live, mended, mended_all, received_states, Call, creates, unlinks, renames, removes, spreads, lists, pushes, receives, hears, counts, draws}
 use Rattle.cluster.specs.Accepted.{answer_in, Creates, creates_is, Kills, unlinks_is, removes_is, Renames, renames_is, Takes, takes_is, receives_is}
+use mathlib.Core.List.Memᴰ
 
 -- the state stands in the table
 pub record Stands (u : Table) (x : State) : Type 0 where

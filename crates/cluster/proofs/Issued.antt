@@ -2,7 +2,6 @@
 -- run, the root's apart, which has no issued stamp. Assumes nothing.
 use Rattle.std.specs.Prelude.{◌≡◌, refl, ◌⊎◌, Bool, true, cond, List, ℕ, eqb}
 use Rattle.std.proofs.Common.{ap, sym, subst, ◌∙◌, inl, inr, eq-eqb}
-use mathlib.Core.List.Memᴰ
 use Rattle.document.specs.Tables.{Table, table_bytes, table_of, head_of}
 use Rattle.document.specs.Sound.{sound_bytes}
 use Rattle.document.specs.Outcomes.{Outcome, refused, done, table_after}
@@ -15,6 +14,7 @@ use Rattle.cluster.specs.Reached.{table_back}
 use Rattle.cluster.proofs.Makes.{left}
 use Rattle.cluster.proofs.Begun.{awake, sized, reached}
 use Rattle.cluster.proofs.Theorem.{always_sound}
+use mathlib.Core.List.Memᴰ
 
 pub record Stood (n : ℕ) (lent : ℕ → List ℕ) (c : Cluster) (x : State) : Type 0 where
   pub before : Cluster

@@ -2,7 +2,6 @@
 use Rattle.std.specs.Prelude.{◌≡◌, refl, ◌⊎◌, Bool, true, false, cond, List, [], ◌∷◌, ◌++◌, ℕ, eqb}
 use Rattle.std.proofs.Common.{ap, sym, subst, ◌∙◌, inl, inr, eqb-true}
 use Rattle.std.proofs.Math.Option.{Option, some}
-use mathlib.Core.List.Memᴰ
 use Rattle.std.proofs.lemmas.Bool.{eqb-false}
 use Rattle.messages.specs.declared.acknowledgement.Acknowledgement.{Acknowledgement}
 use Rattle.messages.specs.Acknowledgements.{ack_bytes}
@@ -30,6 +29,7 @@ use Rattle.cluster.specs.Net.{writes_keep, hears_keep}
 use Rattle.cluster.specs.Receive.{takes_keep}
 use Rattle.cluster.specs.Accepted.{answer_in, on_table, creates_is, unlinks_is, removes_is, renames_is, spreads_is, writes_is, takes_is, receives_is, Hears, hears_is, acknowledges_is}
 use Rattle.cluster.specs.Reached.{Letter, push_letter, ack_letter, world, Reached, moved, stands, lands}
+use mathlib.Core.List.Memᴰ
 
 -- what every accepted call leaves is sound, bytes and table
 pub left : (k : Call) (l : List ℕ) (v : ℕ) (u : Table) (w : List ℕ) → answer k l ≡ done v u w → Left u

@@ -3,7 +3,6 @@
 use Rattle.std.specs.Prelude.{◌≡◌, refl, ◌⊎◌, ◌↔◌, Bool, true, false, cond, List, [], ◌∷◌, ℕ}
 use Rattle.std.proofs.Common.{ap, sym, ◌∙◌, inl, inr, arith}
 use Rattle.std.proofs.Math.Option.{Option, some, none}
-use mathlib.Core.List.Memᴰ
 use Rattle.numbers.specs.Nodes.{has, members}
 use Rattle.slots.specs.declared.replica.Replica.{Replica}
 use Rattle.document.specs.Tables.{Table, table_of, find}
@@ -18,6 +17,7 @@ use Rattle.cluster.specs.Sets.{empty_set, no_size}
 use Rattle.cluster.specs.Facts.{facts_of}
 use Rattle.cluster.specs.Final.{Silent}
 use Rattle.cluster.specs.Reached.{world, Reached}
+use mathlib.Core.List.Memᴰ
 
 -- the sum is 0 exactly if every pending set has no size
 sum_none : (l : List Replica) → pending_sum l ≡ 0 → (r : Replica) → In r l → members 8 r.pending ≡ 0

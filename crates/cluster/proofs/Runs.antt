@@ -4,7 +4,6 @@
 use Rattle.std.specs.Prelude.{◌≡◌, refl, Bool, true, false, cond, List, [], ◌∷◌, ◌++◌, ℕ, zero, suc, length}
 use Rattle.std.proofs.Common.{ap, sym, subst, ◌∙◌, arith, eq-eqb}
 use Rattle.std.proofs.Math.Option.{Option, some, none}
-use mathlib.Core.List.Memᴰ
 use Rattle.codec.specs.Bytes.{chunk, le, bytes_of, zeros, same_bytes}
 use Rattle.codec.specs.Lists.{every}
 use Rattle.codec.specs.Laws.{length_zeros}
@@ -31,6 +30,7 @@ use Rattle.cluster.specs.Accepted.{answer_in, answer_in_law}
 use Rattle.cluster.specs.Reached.{table_back}
 use Rattle.cluster.proofs.Makes.{left}
 use Rattle.cluster.proofs.Theorem.{demand_3}
+use mathlib.Core.List.Memᴰ
 
 -- ---- calls on tables
 

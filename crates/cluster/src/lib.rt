@@ -1,5 +1,5 @@
-// Demand 3: the cluster as definitions, and what holds whenever no node has anything pending. All of it stands in specs/ and proofs/;
-// there is no code here but one function, since a crate has one.
+// Demand 3: the cluster as definitions, and what holds whenever no node has anything pending. All of it stands in specs/
+// and proofs/; there is no code here but one function, since a crate has one.
 //
 // To believe: Cluster. The theorem: Theorem (demand_3), with Issued (which states are ever issued), Quiet and Runs (the
 // first run of document 01 as an instance). The invariants and why they suffice: Ranks, Sets, Invariants, Facts, Final.

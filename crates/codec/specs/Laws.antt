@@ -27,9 +27,9 @@ length_bytes_of (suc n) v = ap suc (length_bytes_of n (v / 256))
 
 -- ---- one byte
 
-pub get_d_chunk : (l : List ℕ) (o n i : ℕ) → i < n → get_or (chunk l o n) i 0 ≡ get_or l (o + i) 0
+pub get_or_chunk : (l : List ℕ) (o n i : ℕ) → i < n → get_or (chunk l o n) i 0 ≡ get_or l (o + i) 0
 unfolding chunk
-get_d_chunk l o n i h = rw (get_or-take, get_or-drop)
+get_or_chunk l o n i h = rw (get_or-take, get_or-drop)
 
 -- ---- a part of a part
 
@@ -40,7 +40,7 @@ chunk_chunk l o n p m h =
     (λ i hi.
     let him : i < m = omega (arith, simp (length-take) at hi) in
     let hin : p + i < n = omega arith in
-    get_d_chunk (chunk l o n) p m i him ∙ get_d_chunk l o n (p + i) hin ∙ ap (λ (k : ℕ). get_or l k 0) (omega arith) ∙ sym (get_d_chunk l (o + p) m i him))
+    get_or_chunk (chunk l o n) p m i him ∙ get_or_chunk l o n (p + i) hin ∙ ap (λ (k : ℕ). get_or l k 0) (omega arith) ∙ sym (get_or_chunk l (o + p) m i him))
 
 -- a part that begins a part
 pub first_chunk : (l : List ℕ) (o n m : ℕ) → m ≤ n → chunk (chunk l o n) 0 m ≡ chunk l o m
@@ -316,7 +316,7 @@ unfolding chunk
 bytes_chunk l o n h i = go (dec_lt i n)
   where
     go : Dec (i < n) → get_or (chunk l o n) i 0 < 256
-    go (yes lt) = rw (get_d_chunk l o n i lt) (h (o + i))
+    go (yes lt) = rw (get_or_chunk l o n i lt) (h (o + i))
     go (no ge) =
         let short : length (take n (drop o l)) ≤ i = simp length-take (omega arith) in
         omega (arith, get_or-eq_default (take n (drop o l)) 0 short)

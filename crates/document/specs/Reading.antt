@@ -7,7 +7,7 @@ use Rattle.std.proofs.Math.Option.{Option, some, none}
 use mathlib.Core.List.{List, [], ◌++◌, append_assoc, append-nil}
 use Prim.Native.Nat.{ℕ, ◌+◌, ◌*◌, ◌-◌, ◌^◌, ◌≤◌, ◌<◌}
 use Rattle.codec.specs.Bytes.{chunk, zeros, marked_at, zero_at, Bytes, u8_at}
-use Rattle.codec.specs.Laws.{length_chunk, bytes_chunk, chunk_add, chunk_whole, get_d_chunk}
+use Rattle.codec.specs.Laws.{length_chunk, bytes_chunk, chunk_add, chunk_whole, get_or_chunk}
 use Rattle.codec.specs.Lists.{every, and_true, and_both}
 use Rattle.numbers.specs.Nodes.{is_within, is_size, is_node}
 use Rattle.records.specs.declared.entry.Entry.{Entry}
@@ -358,7 +358,7 @@ module _ (l : List ℕ) (s : sound_bytes l ≡ true) where
 -- whose table it is
 pub own_at : (l : List ℕ) → u8_at l 2 ≡ (table_of l).own
 unfolding table_of table_header_of
-own_at l = sym (get_d_chunk l 0 32 2 (omega arith))
+own_at l = sym (get_or_chunk l 0 32 2 (omega arith))
 
 -- whether an entry is live
 pub live_at : (l : List ℕ) (s : ℕ) → (entry_in l s).entry.live ≡ u8_at l (entry_slot s + 2)

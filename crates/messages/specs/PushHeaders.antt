@@ -3,7 +3,7 @@
 use Rattle.std.specs.Prelude.{◌≡◌, refl, Bool, true, ◌&&◌, List, [], ◌∷◌, ℕ, ◌+◌, ◌^◌, ◌≤◌, ◌<◌, leb, length}
 use Rattle.std.proofs.Common.{ap, arith, add-zero}
 use Rattle.codec.specs.Bytes.{chunk, splice, le, bytes_of, u8, u32, u8_at, u32_at, zeros, joined, same_bytes, marked_at, zero_at, Bytes}
-use Rattle.codec.specs.Laws.{get_d_chunk, chunk_chunk, le_bytes_of, splices_splice, same_eq, joined_back, marked_chunk, zero_chunk, u8_back, number_back, zeros_back}
+use Rattle.codec.specs.Laws.{get_or_chunk, chunk_chunk, le_bytes_of, splices_splice, same_eq, joined_back, marked_chunk, zero_chunk, u8_back, number_back, zeros_back}
 use Rattle.codec.specs.Lists.{every, and_true}
 use Rattle.numbers.specs.Nodes.{is_within, is_node}
 use Rattle.numbers.specs.Ids.{is_version}
@@ -52,7 +52,7 @@ length_push_bytes p = refl
 -- the fields, where they stand in a longer string
 pub push_fields : (l : List ℕ) (o : ℕ) → push_at l o ≡ record { sender = u8_at l (o + 2); addressee = u8_at l (o + 3); version = u32_at l (o + 4); heads = u8_at l (o + 8); entries = u8_at l (o + 9) }
 unfolding push_of
-push_fields l o = push_ext (get_d_chunk l o 16 2 (omega arith)) (get_d_chunk l o 16 3 (omega arith)) (ap le (chunk_chunk l o 16 4 4 (omega arith))) (get_d_chunk l o 16 8 (omega arith)) (get_d_chunk l o 16 9 (omega arith))
+push_fields l o = push_ext (get_or_chunk l o 16 2 (omega arith)) (get_or_chunk l o 16 3 (omega arith)) (ap le (chunk_chunk l o 16 4 4 (omega arith))) (get_or_chunk l o 16 8 (omega arith)) (get_or_chunk l o 16 9 (omega arith))
 
 -- in its range, where it stands in a longer string
 pub push_range : (n : ℕ) (l : List ℕ) (o : ℕ) →

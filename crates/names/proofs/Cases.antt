@@ -1,8 +1,7 @@
 -- P6 and P7 of document 01, computed: what `Name::from` makes of a text, judged as `Name::is_name` judges it.
 -- Assumes nothing.
-use mathlib.Core.Path.{◌≡◌, refl}
-use mathlib.Core.Bool.{true, false}
-use mathlib.Core.List.{[], ◌∷◌}
+use Rattle.std.proofs.Common.{◌≡◌}
+use Rattle.std.specs.Prelude.{refl, true, false, [], ◌∷◌}
 use lib.ListN.{replicate}
 use Rattle.codec.specs.Lists.{every}
 use Rattle.names.specs.Names.{is_name, is_text, name_from, no_name}

@@ -6,7 +6,7 @@ use Rattle.std.proofs.Math.Seq.{drop-length, take-append_seam, drop-append_seam}
 use Rattle.std.proofs.lemmas.Bool.{lt-leb}
 use Rattle.codec.specs.Bytes.{chunk, splice, u8_at, u8, zeros, all_are, same_bytes}
 use Rattle.codec.specs.Lists.{every, and_true, and_right}
-use Rattle.codec.specs.Laws.{reads, same_eq, same_refl, splice_splice, written_out, length_chunk, get_d_chunk, chunk_chunk, u8_back, chunk_add, all_zeros, drop_zeros}
+use Rattle.codec.specs.Laws.{reads, same_eq, same_refl, splice_splice, written_out, length_chunk, get_or_chunk, chunk_chunk, u8_back, chunk_add, all_zeros, drop_zeros}
 use Rattle.names.specs.declared.Name.{Name}
 
 -- "Name: one length byte, then fifteen bytes": the name that stands at o, and the sixteen bytes of a name
@@ -116,5 +116,5 @@ name_from_law s = go (leb (length s) 15) refl
 -- a name within a part
 pub name_chunk : (l : List ℕ) (o n p : ℕ) → p + 16 ≤ n → name_at (chunk l o n) p ≡ name_at l (o + p)
 name_chunk l o n p h =
-    name_ext (get_d_chunk l o n p (omega arith))
+    name_ext (get_or_chunk l o n p (omega arith))
     (chunk_chunk l o n (p + 1) 15 (omega arith) ∙ ap (λ (k : ℕ). chunk l k 15) {x = o + (p + 1)} {y = o + p + 1} (omega arith))

@@ -3,7 +3,7 @@
 use Rattle.std.specs.Prelude.{◌≡◌, refl, Bool, true, ◌&&◌, List, [], ◌∷◌, ℕ, ◌+◌, ◌^◌, ◌≤◌, ◌<◌, leb, length}
 use Rattle.std.proofs.Common.{ap, sym, arith, add-zero}
 use Rattle.codec.specs.Bytes.{chunk, splice, le, bytes_of, u8, u32, u64, u8_at, u32_at, u64_at, zeros, joined, same_bytes, marked_at, zero_at, Bytes}
-use Rattle.codec.specs.Laws.{get_d_chunk, chunk_chunk, le_bytes_of, written_out, splices_splice, same_eq, joined_back, marked_chunk, zero_chunk, u8_back, number_back, zeros_back}
+use Rattle.codec.specs.Laws.{get_or_chunk, chunk_chunk, le_bytes_of, written_out, splices_splice, same_eq, joined_back, marked_chunk, zero_chunk, u8_back, number_back, zeros_back}
 use Rattle.codec.specs.Lists.{every, and_true}
 use Rattle.names.specs.Names.{name_at, name_bytes, is_name, name_ext, name_back, name_chunk}
 use Rattle.numbers.specs.Ids.{is_id, is_stamp}
@@ -56,7 +56,7 @@ pub entry_fields : (l : List ℕ) (o : ℕ) →
     ≡ record { live = u8_at l (o + 2); child = u32_at l (o + 4); stamp = u64_at l (o + 8); name = name_at l (o + 16) }
 unfolding entry_of
 entry_fields l o =
-    entry_ext (get_d_chunk l o 32 2 (omega arith)) (ap le (chunk_chunk l o 32 4 4 (omega arith)))
+    entry_ext (get_or_chunk l o 32 2 (omega arith)) (ap le (chunk_chunk l o 32 4 4 (omega arith)))
     (ap le (chunk_chunk l o 32 8 8 (omega arith))) (name_chunk l o 32 16 (omega arith))
 
 -- in its range, where it stands in a longer string

@@ -3,7 +3,7 @@
 use Rattle.std.specs.Prelude.{◌≡◌, refl, Bool, true, ◌&&◌, cond, List, [], ◌∷◌, ℕ, ◌+◌, ◌^◌, ◌≤◌, ◌<◌, eqb, leb, length}
 use Rattle.std.proofs.Common.{ap, sym, arith, add-zero, eqb-true}
 use Rattle.codec.specs.Bytes.{chunk, splice, le, bytes_of, u8, u32, u64, u8_at, u32_at, u64_at, zeros, joined, same_bytes, marked_at, zero_at, Bytes}
-use Rattle.codec.specs.Laws.{get_d_chunk, chunk_chunk, le_bytes_of, written_out, splices_splice, same_eq, joined_back, marked_chunk, zero_chunk, u8_back, number_back, zeros_back}
+use Rattle.codec.specs.Laws.{get_or_chunk, chunk_chunk, le_bytes_of, written_out, splices_splice, same_eq, joined_back, marked_chunk, zero_chunk, u8_back, number_back, zeros_back}
 use Rattle.codec.specs.Lists.{every, and_true}
 use Rattle.names.specs.Names.{name_at, name_bytes, no_name, is_name, same_name, name_ext, name_back, name_chunk, same_name_eq}
 use Rattle.numbers.specs.Nodes.{is_within, is_set, all}
@@ -98,9 +98,9 @@ pub head_fields : (l : List ℕ) (o : ℕ) →
     }
 unfolding head_of
 head_fields l o =
-    head_ext (get_d_chunk l o 40 2 (omega arith)) (get_d_chunk l o 40 3 (omega arith))
+    head_ext (get_or_chunk l o 40 2 (omega arith)) (get_or_chunk l o 40 3 (omega arith))
     (ap le (chunk_chunk l o 40 4 4 (omega arith))) (ap le (chunk_chunk l o 40 8 8 (omega arith)))
-    (get_d_chunk l o 40 16 (omega arith)) (get_d_chunk l o 40 17 (omega arith))
+    (get_or_chunk l o 40 16 (omega arith)) (get_or_chunk l o 40 17 (omega arith))
     (ap le (chunk_chunk l o 40 20 4 (omega arith))) (name_chunk l o 40 24 (omega arith))
 
 -- in its range, where it stands in a longer string

@@ -1,4 +1,5 @@
-// The exported twins of the calls, for C and Rust: each answers number * 4294967296 + value.
+// The exported twins of the calls, for C and Rust: each answers number * 4294967296 + value. They stand in a crate of
+// their own, since a crate is a library or a static library; `service` has the calls, for what is written in Rattle.
 #![tactic(auto)]
 
 ghost use Rattle.answers.specs.Forms.{Packed};

@@ -3,7 +3,7 @@
 use Rattle.std.specs.Prelude.{◌≡◌, refl, Bool, true, ◌&&◌, List, [], ◌∷◌, ℕ, ◌+◌, ◌^◌, ◌≤◌, ◌<◌, length}
 use Rattle.std.proofs.Common.{ap, arith, add-zero}
 use Rattle.codec.specs.Bytes.{chunk, splice, le, bytes_of, u8, u32, u8_at, u32_at, zeros, joined, zero_at, Bytes}
-use Rattle.codec.specs.Laws.{get_d_chunk, chunk_chunk, first_chunk, le_bytes_of, splices_splice, joined_back, zero_chunk, u8_back, number_back, zeros_back, bytes_chunk, length_chunk}
+use Rattle.codec.specs.Laws.{get_or_chunk, chunk_chunk, first_chunk, le_bytes_of, splices_splice, joined_back, zero_chunk, u8_back, number_back, zeros_back, bytes_chunk, length_chunk}
 use Rattle.codec.specs.Lists.{and_true}
 use Rattle.numbers.specs.Nodes.{is_set}
 use Rattle.numbers.specs.Ids.{is_version}
@@ -45,7 +45,7 @@ pub replica_fields : (l : List ℕ) (o : ℕ) →
 unfolding replica_of
 replica_fields l o =
     replica_ext (ap head_of (first_chunk l o 48 40 (omega arith))) (ap le (chunk_chunk l o 48 40 4 (omega arith)))
-    (get_d_chunk l o 48 44 (omega arith))
+    (get_or_chunk l o 48 44 (omega arith))
 
 pub replica_range : (n : ℕ) (l : List ℕ) (o : ℕ) →
     replica_in_range n (chunk l o 48)

@@ -3,7 +3,7 @@
 use Rattle.std.specs.Prelude.{◌≡◌, refl, Bool, true, ◌&&◌, List, [], ◌∷◌, ℕ, ◌+◌, ◌^◌, ◌≤◌, ◌<◌, ltb, length}
 use Rattle.std.proofs.Common.{ap, arith, add-zero}
 use Rattle.codec.specs.Bytes.{chunk, splice, le, bytes_of, u8, u32, u64, u8_at, u32_at, u64_at, zeros, joined, same_bytes, marked_at, zero_at, Bytes}
-use Rattle.codec.specs.Laws.{get_d_chunk, chunk_chunk, le_bytes_of, splices_splice, same_eq, joined_back, marked_chunk, zero_chunk, u8_back, number_back, zeros_back}
+use Rattle.codec.specs.Laws.{get_or_chunk, chunk_chunk, le_bytes_of, splices_splice, same_eq, joined_back, marked_chunk, zero_chunk, u8_back, number_back, zeros_back}
 use Rattle.codec.specs.Lists.{every, and_true}
 use Rattle.numbers.specs.Nodes.{is_within, is_size, is_node}
 use Rattle.slots.specs.declared.table_header.TableHeader.{TableHeader}
@@ -51,7 +51,7 @@ length_table_header_bytes t = refl
 -- the fields, where they stand in a longer string
 pub table_fields : (l : List ℕ) (o : ℕ) → table_header_at l o ≡ record { own = u8_at l (o + 2); nodes = u8_at l (o + 3); next = u32_at l (o + 4); highest = u64_at l (o + 8) }
 unfolding table_header_of
-table_fields l o = table_ext (get_d_chunk l o 32 2 (omega arith)) (get_d_chunk l o 32 3 (omega arith)) (ap le (chunk_chunk l o 32 4 4 (omega arith))) (ap le (chunk_chunk l o 32 8 8 (omega arith)))
+table_fields l o = table_ext (get_or_chunk l o 32 2 (omega arith)) (get_or_chunk l o 32 3 (omega arith)) (ap le (chunk_chunk l o 32 4 4 (omega arith))) (ap le (chunk_chunk l o 32 8 8 (omega arith)))
 
 -- in its range, where it stands in a longer string
 pub table_range : (l : List ℕ) (o : ℕ) →

@@ -3,7 +3,7 @@
 use Rattle.std.specs.Prelude.{◌≡◌, Bool, true, ◌&&◌, List, ℕ, ◌*◌, ◌-◌, ◌≤◌, eqb, leb, length}
 use Rattle.std.proofs.Common.{sym, arith, leb-true, eqb-true}
 use Rattle.codec.specs.Bytes.{chunk, u8_at, marked_at, zero_at}
-use Rattle.codec.specs.Laws.{get_d_chunk}
+use Rattle.codec.specs.Laws.{get_or_chunk}
 use Rattle.codec.specs.Lists.{and_true}
 use Rattle.numbers.specs.Nodes.{is_size}
 use Rattle.slots.specs.TableHeaders.{table_mark, table_header_of, table_header_fits, table_header_in_range}
@@ -20,7 +20,7 @@ entry_slot_fits n l s = listed_in_range n (chunk l (entry_slot s) 40)
 -- N, read in place
 pub nodes_at : (l : List ℕ) → u8_at l 3 ≡ (table_of l).nodes
 unfolding table_of table_header_of
-nodes_at l = sym (get_d_chunk l 0 32 3 (omega arith))
+nodes_at l = sym (get_or_chunk l 0 32 3 (omega arith))
 
 -- "N at most 8"
 pub nodes_most : (c : List ℕ) → table_header_in_range c ≡ true → (table_header_of c).nodes ≤ 8

@@ -1,11 +1,9 @@
 -- `codec::all_are` meets its contract. The loop's invariant: all are v exactly if those from i on are.
 -- Assumes nothing.
-use mathlib.Core.Path.{refl, sym, ◌∙◌}
-use native.Mathlib.Omega.{arith}
-use borrow.Author.Tests.{eq-eqb, ne_eqb}
+use Rattle.std.specs.Prelude.{refl}
+use Rattle.std.proofs.Common.{sym, ◌∙◌, arith, eq-eqb, ne_eqb}
 use borrow.Author.Rules.{rules}
 use Rattle.codec.specs.Lists.{every_step, every_none}
-use mathlib.Core.Path.{refl, ◌∙◌}
 use Rattle.codec.proofs.all_are.Goals as goal
 
 pub loop-i-init : goal.loop-i-init

@@ -1,10 +1,8 @@
 -- `codec::all_are` meets its contract. The loop's invariant: all are v exactly if those from i on are.
 -- Assumes nothing.
-use Prim.Native.Nat.{◌-◌, ◌≤◌}
-use mathlib.Core.Path.{◌≡◌}
-use lib.ListN.{length, drop}
+use Rattle.std.proofs.Common.{◌-◌, ◌≤◌, ◌≡◌, length}
+use Rattle.std.specs.Prelude.{drop}
 use Rattle.codec.specs.Bytes.{all_are}
-use mathlib.Core.Path.{◌≡◌}
 use Rattle.codec.proofs.all_are.Given as goal
 
 abbrev pub invariant-loop-i : goal.invariant-loop-i

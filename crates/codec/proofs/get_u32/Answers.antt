@@ -1,5 +1,5 @@
 -- `codec::get_u32` meets its contract: the sum is the number that the four bytes are. Assumes nothing.
-use native.Mathlib.Omega.{arith}
+use Rattle.std.proofs.Common.{arith}
 use Rattle.codec.specs.Laws.{u32_bytes}
 use Rattle.codec.proofs.get_u32.Goals as goal
 

@@ -1,7 +1,6 @@
 -- `codec::is_marked` meets its contract. Assumes nothing.
-use mathlib.Core.Path.{ap, ◌∙◌}
-use mathlib.Core.List.{List}
-use Prim.Native.Nat.{ℕ}
+use Rattle.std.proofs.Common.{ap, ◌∙◌}
+use Rattle.std.specs.Prelude.{List, ℕ}
 use Rattle.codec.specs.Bytes.{same_bytes}
 use Rattle.codec.proofs.is_marked.Goals as goal
 

@@ -1,6 +1,5 @@
 -- `codec::is_zero` meets its contract: what is left behind the zeros is tested byte by byte. Assumes nothing.
-use mathlib.Core.Path.{ap, sym, ◌∙◌}
-use native.Mathlib.Omega.{arith}
+use Rattle.std.proofs.Common.{ap, sym, ◌∙◌, arith}
 use Rattle.codec.specs.Bytes.{all_are}
 use Rattle.codec.specs.Laws.{chunk_rest}
 use Rattle.codec.proofs.is_zero.Goals as goal

@@ -1,9 +1,7 @@
 -- `codec::part` meets its contract: what is lent is the chunk. Assumes nothing.
-use native.Mathlib.Omega.{arith}
+use Rattle.std.proofs.Common.{arith, ap, ◌+◌, ◌-◌}
+use Rattle.std.specs.Prelude.{ℕ, take, drop}
 use Rattle.codec.specs.Bytes.{chunk}
-use mathlib.Core.Path.{ap}
-use Prim.Native.Nat.{ℕ, ◌+◌, ◌-◌}
-use lib.ListN.{take, drop}
 use Rattle.codec.proofs.part.Goals as goal
 
 pub returns : goal.returns

@@ -1,7 +1,7 @@
 -- `codec::past_zeros` meets its contract. The loop's invariant: all are zero exactly if those from i on are.
 -- Assumes nothing.
-use mathlib.Core.Path.{refl, sym, ◌∙◌}
-use native.Mathlib.Omega.{arith}
+use Rattle.std.specs.Prelude.{refl}
+use Rattle.std.proofs.Common.{sym, ◌∙◌, arith}
 use borrow.Author.Rules.{rules}
 use Rattle.codec.specs.Laws.{zeros_skipped}
 use Rattle.codec.proofs.past_zeros.Goals as goal

@@ -1,8 +1,7 @@
 -- `codec::past_zeros` meets its contract. The loop's invariant: all are zero exactly if those from i on are.
 -- Assumes nothing.
-use Prim.Native.Nat.{◌-◌, ◌≤◌}
-use mathlib.Core.Path.{◌≡◌}
-use lib.ListN.{length, drop}
+use Rattle.std.proofs.Common.{◌-◌, ◌≤◌, ◌≡◌, length}
+use Rattle.std.specs.Prelude.{drop}
 use Rattle.codec.specs.Bytes.{all_are}
 use Rattle.codec.proofs.past_zeros.Given as goal
 

@@ -1,6 +1,5 @@
 -- `codec::put_four` meets its contract: four stores side by side are one splice. Assumes nothing.
-use native.Mathlib.Omega.{arith}
-use lib.ListN.{length-set}
+use Rattle.std.proofs.Common.{arith, length-set}
 use Rattle.codec.specs.Laws.{stores_at}
 use Rattle.codec.proofs.put_four.Goals as goal
 

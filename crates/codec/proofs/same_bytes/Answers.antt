@@ -1,8 +1,7 @@
 -- `codec::same_bytes` meets its contract. The loop's invariant: they are the same exactly if those from i on are.
 -- Assumes nothing.
-use mathlib.Core.Path.{refl, sym, ◌∙◌}
-use native.Mathlib.Omega.{arith}
-use borrow.Author.Tests.{eq-eqb, ne_eqb}
+use Rattle.std.specs.Prelude.{refl}
+use Rattle.std.proofs.Common.{sym, ◌∙◌, arith, eq-eqb, ne_eqb}
 use borrow.Author.Rules.{rules}
 use Rattle.codec.specs.Laws.{same_step, same_none, same_length_false}
 use Rattle.codec.proofs.same_bytes.Goals as goal

@@ -1,8 +1,7 @@
 -- `codec::same_bytes` meets its contract. The loop's invariant: they are the same exactly if those from i on are.
 -- Assumes nothing.
-use Prim.Native.Nat.{◌-◌, ◌≤◌}
-use mathlib.Core.Path.{◌≡◌}
-use lib.ListN.{length, drop}
+use Rattle.std.proofs.Common.{◌-◌, ◌≤◌, ◌≡◌, length}
+use Rattle.std.specs.Prelude.{drop}
 use Rattle.codec.specs.Bytes.{same_bytes}
 use Rattle.codec.proofs.same_bytes.Given as goal
 

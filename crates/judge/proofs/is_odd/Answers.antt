@@ -1,8 +1,7 @@
 -- `judge::is_odd` meets its contract: the heads, the entries of the message, what the ancestors set, and what the
 -- pushed replica sets. Assumes nothing.
-use mathlib.Core.Path.{refl, ap, sym, ◌∙◌}
-use mathlib.Core.Bool.{not}
-use native.Mathlib.Omega.{arith}
+use Rattle.std.specs.Prelude.{refl, not}
+use Rattle.std.proofs.Common.{ap, sym, ◌∙◌, arith}
 use Rattle.codec.specs.Lists.{and_stop, and_go}
 use Rattle.document.specs.Reading.{sound_length}
 use Rattle.judge.specs.Judging.{counted, counted_least, odd_judged}

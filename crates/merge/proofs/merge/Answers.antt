@@ -1,10 +1,8 @@
 -- `merge::merge` meets its contract: one step after the other. Assumes nothing.
-use native.Mathlib.Omega.{arith}
-use mathlib.Core.Path.{refl}
+use Rattle.std.proofs.Common.{arith}
 use Rattle.codec.specs.Bytes.{Bytes}
 use Rattle.steps.specs.Standing.{never}
 use Rattle.merge.specs.Merging.{merge_works, merge_own, merge_sized, merge_long, heads_full, heads_works, heads_held, entries_full, entries_works, entries_base, entries_shown, entries_clock, merge_made, merge_grown}
-use mathlib.Core.Path.{sym, ◌∙◌}
 use Rattle.merge.proofs.merge.Goals as goal
 
 pub take_heads-requires : goal.take_heads-requires
@@ -22,7 +20,7 @@ returns-then-not-take_heads c =
     let slice-known = c.slice_known-1 in
     let take-heads = c.take_heads in (
       heads_full pre (λ n. (slice-known.given n).fits)
-          take-heads.ensures (sym refl ∙ c.if-not-take_heads.true),
+          take-heads.ensures c.if-not-take_heads.true,
       λ e. never e,
     )
 
@@ -33,11 +31,11 @@ join_all-requires c =
     let take-heads = c.take_heads in
     let if1 = c.if-not-take_heads in (
       heads_works pre (λ n. (slice-known.given n).fits)
-          take-heads.ensures (sym refl ∙ if1.false),
+          take-heads.ensures if1.false,
       merge_long pre (λ n. (slice-known.given n).fits),
       merge_sized pre (λ n. (slice-known.given n).fits),
       heads_held pre (λ n. (slice-known.given n).fits)
-          take-heads.ensures (sym refl ∙ if1.false),
+          take-heads.ensures if1.false,
     )
 
 pub returns-then-not-join_all : goal.returns-then-not-join_all
@@ -48,8 +46,8 @@ returns-then-not-join_all c =
     let if1 = c.if-not-take_heads in
     let joins = c.join_all in (
       entries_full pre (λ n. (slice-known.given n).fits)
-          take-heads.ensures (sym refl ∙ if1.false)
-          joins.ensures (sym refl ∙ c.if-not-join_all.true),
+          take-heads.ensures if1.false
+          joins.ensures c.if-not-join_all.true,
       λ e. never e,
     )
 
@@ -63,14 +61,14 @@ mend_all-requires c =
     let joins = c.join_all in
     let if2 = c.if-not-join_all in
     let a : Bytes args.t.now = (λ n. (slice-known.given n).fits) in (
-      entries_works pre a take-heads.ensures (sym refl ∙ if1.false)
-          joins.ensures (sym refl ∙ if2.false),
-      entries_base pre a take-heads.ensures (sym refl ∙ if1.false)
-          joins.ensures (sym refl ∙ if2.false),
-      entries_shown pre a take-heads.ensures (sym refl ∙ if1.false)
-          joins.ensures (sym refl ∙ if2.false),
-      entries_clock pre a take-heads.ensures (sym refl ∙ if1.false)
-          joins.ensures (sym refl ∙ if2.false),
+      entries_works pre a take-heads.ensures if1.false
+          joins.ensures if2.false,
+      entries_base pre a take-heads.ensures if1.false
+          joins.ensures if2.false,
+      entries_shown pre a take-heads.ensures if1.false
+          joins.ensures if2.false,
+      entries_clock pre a take-heads.ensures if1.false
+          joins.ensures if2.false,
       omega (arith, pre.early),
     )
 
@@ -85,8 +83,8 @@ returns c =
     let if2 = c.if-not-join_all in
     let mend-all = c.mend_all in
     let a : Bytes args.t.now = (λ n. (slice-known.given n).fits) in (
-      merge_made pre a take-heads.ensures (sym refl ∙ if1.false)
-          joins.ensures (sym refl ∙ if2.false) mend-all.ensures,
-      merge_grown pre a take-heads.ensures (sym refl ∙ if1.false)
-          joins.ensures (sym refl ∙ if2.false) mend-all.ensures,
+      merge_made pre a take-heads.ensures if1.false
+          joins.ensures if2.false mend-all.ensures,
+      merge_grown pre a take-heads.ensures if1.false
+          joins.ensures if2.false mend-all.ensures,
     )

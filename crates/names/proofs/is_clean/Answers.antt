@@ -1,8 +1,7 @@
 -- `names::is_clean` meets its contract. The loop's invariant: all are clean exactly if those from i on are.
 -- Assumes nothing.
-use mathlib.Core.Path.{refl, sym, ◌∙◌}
-use native.Mathlib.Omega.{arith}
-use borrow.Author.Tests.{eq-eqb, ne_eqb}
+use Rattle.std.specs.Prelude.{refl}
+use Rattle.std.proofs.Common.{sym, ◌∙◌, arith, eq-eqb, ne_eqb}
 use borrow.Author.Rules.{rules}
 use Rattle.codec.specs.Lists.{every_step, every_none}
 use Rattle.names.proofs.is_clean.Goals as goal

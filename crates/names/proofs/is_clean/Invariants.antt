@@ -1,8 +1,7 @@
 -- `names::is_clean` meets its contract. The loop's invariant: all are clean exactly if those from i on are.
 -- Assumes nothing.
-use Prim.Native.Nat.{◌-◌, ◌≤◌}
-use mathlib.Core.Path.{◌≡◌}
-use lib.ListN.{length, drop}
+use Rattle.std.proofs.Common.{◌-◌, ◌≤◌, ◌≡◌, length}
+use Rattle.std.specs.Prelude.{drop}
 use Rattle.names.specs.Names.{clean}
 use Rattle.names.proofs.is_clean.Given as goal
 

@@ -1,5 +1,6 @@
 -- `names::is_text` meets its contract: its tests, in the order of the definition. Assumes nothing.
-use borrow.Author.Tests.{lt-leb, le-leb}
+use Rattle.std.proofs.Common.{le-leb}
+use borrow.Author.Tests.{lt-leb}
 use Rattle.names.specs.Names.{is_text}
 use Rattle.names.proofs.is_text.Goals as goal
 

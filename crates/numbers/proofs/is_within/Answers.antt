@@ -1,5 +1,6 @@
 -- `numbers::is_within` meets its contract: its two tests. Assumes nothing.
-use borrow.Author.Tests.{lt-leb, le-leb}
+use Rattle.std.proofs.Common.{le-leb}
+use borrow.Author.Tests.{lt-leb}
 use Rattle.numbers.proofs.is_within.Goals as goal
 
 pub returns-then-x-low : goal.returns-then-x-low

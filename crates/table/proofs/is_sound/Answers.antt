@@ -1,7 +1,6 @@
 -- `table::is_sound` meets its contract: the ranges, then the rules. Assumes nothing.
-use mathlib.Core.Path.{ap, sym, ◌∙◌}
-use Prim.Native.Nat.{ℕ}
-use native.Mathlib.Omega.{arith}
+use Rattle.std.proofs.Common.{ap, sym, ◌∙◌, arith}
+use Rattle.std.specs.Prelude.{ℕ}
 use borrow.Author.Rules.{rules as known}
 use Rattle.codec.specs.Lists.{and_stop, and_go}
 use Rattle.document.specs.Tables.{replicas_used}

@@ -1,5 +1,5 @@
 -- `changes::create::create_in` meets its contract. Assumes nothing.
-use mathlib.Core.Path.{sym, ◌∙◌}
+use Rattle.std.proofs.Common.{sym, ◌∙◌}
 use Rattle.answers.specs.Answers.{refuses, instead}
 use Rattle.document.specs.Tables.{table_of}
 use Rattle.document.specs.Reading.{sound_length}
@@ -19,13 +19,21 @@ pub is_name_taken-requires : goal.is_name_taken-requires
 is_name_taken-requires c = (sound_length c.args.table.now c.requires.sound, c.entries_used.ensures.0)
 
 pub returns-then-is_name_taken : goal.returns-then-is_name_taken
-returns-then-is_name_taken c = refuses _ (created_9 c.args.time c.args.kind c.args.name c.args.set (table_of c.args.table.now) c.args.p c.if-p-ne1.false c.if-p-ne2.false (sym c.is_name_taken.ensures ∙ c.if-is_name_taken.true))
+returns-then-is_name_taken c =
+    let a = c.args in
+    refuses _ (created_9 a.time a.kind a.name a.set (table_of a.table.now) a.p c.if-p-ne1.false c.if-p-ne2.false (sym c.is_name_taken.ensures ∙ c.if-is_name_taken.true))
 
 pub returns-then-p-ge16 : goal.returns-then-p-ge16
-returns-then-p-ge16 c = refuses _ (created_11 c.args.time c.args.kind c.args.name c.args.set (table_of c.args.table.now) c.args.p c.if-p-ne1.false c.if-p-ne2.false (sym c.is_name_taken.ensures ∙ c.if-is_name_taken.false) c.if-p-ge16.true)
+returns-then-p-ge16 c =
+    let a = c.args in
+    refuses _ (created_11 a.time a.kind a.name a.set (table_of a.table.now) a.p c.if-p-ne1.false c.if-p-ne2.false
+    (sym c.is_name_taken.ensures ∙ c.if-is_name_taken.false) c.if-p-ge16.true)
 
 pub make-requires : goal.make-requires
 make-requires c = record { takes = c.requires; shallow = c.if-p-ge16.false }
 
 pub returns : goal.returns
-returns c = instead _ (sym (created_makes c.args.time c.args.kind c.args.name c.args.set (table_of c.args.table.now) c.args.p c.if-p-ne1.false c.if-p-ne2.false (sym c.is_name_taken.ensures ∙ c.if-is_name_taken.false) c.if-p-ge16.false)) c.make.ensures
+returns c =
+    let a = c.args in
+    instead _ (sym (created_makes a.time a.kind a.name a.set (table_of a.table.now) a.p c.if-p-ne1.false c.if-p-ne2.false
+    (sym c.is_name_taken.ensures ∙ c.if-is_name_taken.false) c.if-p-ge16.false)) c.make.ensures

@@ -1,11 +1,9 @@
 -- `changes::create::make` meets its contract. Assumes nothing.
-use native.Mathlib.Omega.{arith}
-use mathlib.Core.Path.{ap, ◌∙◌}
+use Rattle.std.proofs.Common.{arith, ap, ◌∙◌}
 use Rattle.answers.specs.Answers.{instead}
-use Rattle.steps.specs.Standing.{sound_stands}
+use Rattle.steps.specs.Standing.{sound_stands, stands}
 use Rattle.numbers.specs.Nodes.{join, single}
 use Rattle.document.specs.Reading.{own_at}
-use Rattle.steps.specs.Standing.{stands}
 use Rattle.changes.specs.Working.{copy_stands, copy_own, own_few}
 use Rattle.changes.specs.Creating.{make_changes, make_is, make_clock}
 use Rattle.changes.proofs.create.make.Goals as goal
@@ -19,7 +17,12 @@ take_id-id-requires c =
     (copy_stands c.requires.takes.sound (λ n. (c.slice_known-1.given n).fits) c.copy_of-copy.ensures, o.0, o.1)
 
 pub draw-stamp-requires : goal.draw-stamp-requires
-draw-stamp-requires c = (stands c.take_id-id.ensures.1, omega (arith, make_clock c.requires c.copy_of-copy.ensures c.take_id-id.ensures.1), omega (arith, c.requires.takes.early))
+draw-stamp-requires c = (
+  stands c.take_id-id.ensures.1,
+  omega (arith, make_clock c.requires c.copy_of-copy.ensures c.take_id-id.ensures.1),
+  omega
+      (arith, c.requires.takes.early),
+)
 
 pub get_u8-requires : goal.get_u8-requires
 get_u8-requires c = omega (arith, (sound_stands c.args.table.now c.requires.takes.sound (λ n. (c.slice_known-1.given n).fits)).size)

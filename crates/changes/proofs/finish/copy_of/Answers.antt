@@ -1,6 +1,5 @@
 -- `changes::finish::copy_of` meets its contract. Assumes nothing.
-use native.Mathlib.Omega.{arith}
-use mathlib.Core.Path.{◌∙◌}
+use Rattle.std.proofs.Common.{arith, ◌∙◌}
 use Rattle.names.specs.Names.{splice_whole}
 use Rattle.changes.proofs.finish.copy_of.Goals as goal
 

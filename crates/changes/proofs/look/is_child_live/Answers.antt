@@ -1,9 +1,9 @@
 -- `changes::look::is_child_live` meets its contract. The loop's invariant: one passes exactly if one from i on does. Assumes nothing.
-use native.Mathlib.Omega.{arith}
-use mathlib.Core.Path.{refl, sym, ◌∙◌}
+use Rattle.std.proofs.Common.{arith, sym, ◌∙◌}
+use Rattle.std.specs.Prelude.{refl}
+use borrow.Author.Rules.{rules}
 use Rattle.codec.specs.Lists.{or_stop, or_go}
 use Rattle.changes.specs.Looking.{any_step, any_none, child_any}
-use borrow.Author.Rules.{rules}
 use Rattle.document.specs.Reading.{few_replicas}
 use Rattle.changes.proofs.look.is_child_live.Goals as goal
 

@@ -1,6 +1,6 @@
 -- `changes::look::is_child_live` meets its contract. The loop's invariant: one passes exactly if one from i on does. Assumes nothing.
-use mathlib.Core.Path.{◌≡◌}
-use Prim.Native.Nat.{ℕ, ◌-◌, ◌≤◌}
+use Rattle.std.proofs.Common.{◌≡◌, ◌-◌, ◌≤◌}
+use Rattle.std.specs.Prelude.{ℕ}
 use Rattle.document.specs.Tables.{table_of, replica_in}
 use Rattle.document.specs.Calls.{live_child}
 use Rattle.changes.specs.Looking.{any_slot, is_child_of}

@@ -1,5 +1,5 @@
 -- `changes::look::takes_name` meets its contract: shown in the directory, then the name. Assumes nothing.
-use mathlib.Core.Path.{ap, sym, ◌∙◌}
+use Rattle.std.proofs.Common.{ap, sym, ◌∙◌}
 use Rattle.codec.specs.Lists.{and_stop, and_go}
 use Rattle.names.specs.declared.Name.{Name}
 use Rattle.names.specs.Names.{same_name}

@@ -1,5 +1,5 @@
 -- `changes::remove::remove_held` meets its contract: a live entry or a live child stands in the way. Assumes nothing.
-use mathlib.Core.Path.{sym, ◌∙◌}
+use Rattle.std.proofs.Common.{sym, ◌∙◌}
 use Rattle.document.specs.Reading.{sound_length}
 use Rattle.answers.specs.Answers.{refuses, instead}
 use Rattle.changes.specs.Killing.{remove_7, remove_8, remove_root, remove_shown, remove_child, remove_kills}
@@ -30,10 +30,13 @@ pub is_child_live-requires : goal.is_child_live-requires
 is_child_live-requires c = (sound_length c.args.table.now c.requires.sound, c.replicas_used.ensures.0)
 
 pub returns-then-is_child_live : goal.returns-then-is_child_live
-returns-then-is_child_live c = refuses _ (remove_child c.requires c.if-h-ne1.false c.if-h-ne2.false c.if-h-eq0.false (sym c.is_any_shown.ensures ∙ c.if-is_any_shown.false) (sym c.is_child_live.ensures ∙ c.if-is_child_live.true))
+returns-then-is_child_live c = refuses _ (remove_child c.requires c.if-h-ne1.false c.if-h-ne2.false c.if-h-eq0.false
+    (sym c.is_any_shown.ensures ∙ c.if-is_any_shown.false) (sym c.is_child_live.ensures ∙ c.if-is_child_live.true))
 
 pub kill-requires : goal.kill-requires
-kill-requires c = (remove_kills c.requires c.if-h-ne1.false c.if-h-ne2.false c.if-h-eq0.false (sym c.is_any_shown.ensures ∙ c.if-is_any_shown.false) (sym c.is_child_live.ensures ∙ c.if-is_child_live.false)).0
+kill-requires c = (remove_kills c.requires c.if-h-ne1.false c.if-h-ne2.false c.if-h-eq0.false (sym c.is_any_shown.ensures ∙ c.if-is_any_shown.false)
+    (sym c.is_child_live.ensures ∙ c.if-is_child_live.false)).0
 
 pub returns : goal.returns
-returns c = instead _ (sym (remove_kills c.requires c.if-h-ne1.false c.if-h-ne2.false c.if-h-eq0.false (sym c.is_any_shown.ensures ∙ c.if-is_any_shown.false) (sym c.is_child_live.ensures ∙ c.if-is_child_live.false)).1) c.kill.ensures
+returns c = instead _ (sym (remove_kills c.requires c.if-h-ne1.false c.if-h-ne2.false c.if-h-eq0.false
+    (sym c.is_any_shown.ensures ∙ c.if-is_any_shown.false) (sym c.is_child_live.ensures ∙ c.if-is_child_live.false)).1) c.kill.ensures

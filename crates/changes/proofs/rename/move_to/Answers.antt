@@ -1,5 +1,5 @@
 -- `changes::rename::move_to` meets its contract. Assumes nothing.
-use native.Mathlib.Omega.{arith}
+use Rattle.std.proofs.Common.{arith}
 use Rattle.answers.specs.Answers.{instead}
 use Rattle.steps.specs.Standing.{sound_stands}
 use Rattle.changes.specs.Working.{copy_stands, copy_clock}
@@ -10,7 +10,12 @@ pub copy_of-copy-requires : goal.copy_of-copy-requires
 copy_of-copy-requires c = (sound_stands c.args.table.now c.requires.both.file.sound (λ n. (c.slice_known-1.given n).fits)).size
 
 pub draw-stamp-requires : goal.draw-stamp-requires
-draw-stamp-requires c = (copy_stands c.requires.both.file.sound (λ n. (c.slice_known-1.given n).fits) c.copy_of-copy.ensures, omega (arith, copy_clock c.requires.both.file.sound c.copy_of-copy.ensures), omega (arith, c.requires.both.file.early))
+draw-stamp-requires c = (
+  copy_stands c.requires.both.file.sound (λ n. (c.slice_known-1.given n).fits) c.copy_of-copy.ensures,
+  omega
+      (arith, copy_clock c.requires.both.file.sound c.copy_of-copy.ensures),
+  omega (arith, c.requires.both.file.early),
+)
 
 pub placed-requires : goal.placed-requires
 placed-requires c = c.requires.shallow

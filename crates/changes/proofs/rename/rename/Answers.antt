@@ -1,9 +1,8 @@
 -- `changes::rename::rename` meets its contract. Assumes nothing.
-use native.Mathlib.Omega.{arith}
-use mathlib.Core.Path.{ap, sym, ◌∙◌}
+use Rattle.std.proofs.Common.{arith, ap, sym, ◌∙◌}
+use mathlib.Core.Option.{some}
 use Rattle.answers.specs.Answers.{refuses, instead}
 use Rattle.document.specs.Tables.{table_of}
-use mathlib.Core.Option.{some}
 use Rattle.names.specs.declared.Name.{Name}
 use Rattle.names.specs.Names.{is_name}
 use Rattle.document.specs.Reading.{sound_length}
@@ -13,24 +12,36 @@ use Rattle.changes.specs.Renaming.{renamed_in, rename_late, rename_2, rename_6, 
 use Rattle.changes.proofs.rename.rename.Goals as goal
 
 pub returns-then-time-gt1099511627775 : goal.returns-then-time-gt1099511627775
-returns-then-time-gt1099511627775 c = refuses _ (rename_late c.args.time c.args.id c.args.directory c.args.name.now (table_of c.args.table.now) c.if-time-gt1099511627775.true)
+returns-then-time-gt1099511627775 c =
+    let a = c.args in
+    refuses _ (rename_late a.time a.id a.directory a.name.now (table_of a.table.now) c.if-time-gt1099511627775.true)
 
 pub returns-then-not-is_name : goal.returns-then-not-is_name
-returns-then-not-is_name c = refuses _ (rename_2 c.args.time c.args.id c.args.directory c.args.name.now (table_of c.args.table.now) c.if-time-gt1099511627775.false (ap is_name (sym c.from-given.ensures) ∙ (sym c.is_name.ensures ∙ c.if-not-is_name.true)))
+returns-then-not-is_name c =
+    let a = c.args in
+    refuses _ (rename_2 a.time a.id a.directory a.name.now (table_of a.table.now) c.if-time-gt1099511627775.false
+    (ap is_name (sym c.from-given.ensures) ∙ (sym c.is_name.ensures ∙ c.if-not-is_name.true)))
 
 pub slot_of-found-requires : goal.slot_of-found-requires
 slot_of-found-requires c = sound_length c.args.table.now c.requires
 
 pub returns-in_default : goal.returns-in_default
-returns-in_default c = refuses _ (rename_6 c.args.time c.args.id c.args.directory c.args.name.now (table_of c.args.table.now) c.if-time-gt1099511627775.false (ap is_name (sym c.from-given.ensures) ∙ (sym c.is_name.ensures ∙ c.if-not-is_name.false)) (slot_none c.args.table.now c.args.id (λ n. (c.slice_known-1.given n).fits) (sym c.slot_of-found.ensures ∙ c.in_default.is)))
+returns-in_default c =
+    let a = c.args in
+    refuses _ (rename_6 a.time a.id a.directory a.name.now (table_of a.table.now) c.if-time-gt1099511627775.false
+    (ap is_name (sym c.from-given.ensures) ∙ (sym c.is_name.ensures ∙ c.if-not-is_name.false))
+    (slot_none a.table.now a.id (λ n. (c.slice_known-1.given n).fits) (sym c.slot_of-found.ensures ∙ c.in_default.is)))
 
 pub slot_of-there-requires : goal.slot_of-there-requires
 slot_of-there-requires c = sound_length c.args.table.now c.requires
 
 pub returns-in_default-there : goal.returns-in_default-there
 returns-in_default-there c =
-    let p = slot_held c.args.table.now c.args.id c.in-At.i (sym c.slot_of-found.ensures ∙ c.in-At.is) in
-    refuses _ (rename_6_target c.args.time c.args.id c.args.directory c.args.name.now (table_of c.args.table.now) c.if-time-gt1099511627775.false (ap is_name (sym c.from-given.ensures) ∙ (sym c.is_name.ensures ∙ c.if-not-is_name.false)) _ p.1 (slot_none c.args.table.now c.args.directory (λ n. (c.slice_known-1.given n).fits) (sym c.slot_of-there.ensures ∙ c.in_default-there.is)))
+    let a = c.args in
+    let p = slot_held a.table.now a.id c.in-At.i (sym c.slot_of-found.ensures ∙ c.in-At.is) in
+    refuses _ (rename_6_target a.time a.id a.directory a.name.now (table_of a.table.now) c.if-time-gt1099511627775.false
+    (ap is_name (sym c.from-given.ensures) ∙ (sym c.is_name.ensures ∙ c.if-not-is_name.false)) _ p.1
+    (slot_none a.table.now a.directory (λ n. (c.slice_known-1.given n).fits) (sym c.slot_of-there.ensures ∙ c.in_default-there.is)))
 
 pub overflow_mul-i : goal.overflow_mul-i
 overflow_mul-i c =
@@ -64,18 +75,21 @@ read-p-requires c =
 
 pub rename_held-requires : goal.rename_held-requires
 rename_held-requires c =
+    let a = c.args in
     record {
-      file = (takes c.args.table.now c.args.id c.args.time c.requires c.if-time-gt1099511627775.false (sym c.slot_of-found.ensures ∙ c.in-At.is) c.read-h.ensures).0;
-      target = (takes c.args.table.now c.args.directory c.args.time c.requires c.if-time-gt1099511627775.false (sym c.slot_of-there.ensures ∙ c.in-At-there.is) c.read-p.ensures).0;
+      file = (takes a.table.now a.id a.time c.requires c.if-time-gt1099511627775.false (sym c.slot_of-found.ensures ∙ c.in-At.is) c.read-h.ensures).0;
+      target = (takes a.table.now a.directory a.time c.requires c.if-time-gt1099511627775.false (sym c.slot_of-there.ensures ∙ c.in-At-there.is) c.read-p.ensures).0;
     }
 
 pub returns : goal.returns
 returns c =
-    let p = slot_held c.args.table.now c.args.id c.in-At.i (sym c.slot_of-found.ensures ∙ c.in-At.is) in
-    let q = slot_held c.args.table.now c.args.directory c.in-At-there.j (sym c.slot_of-there.ensures ∙ c.in-At-there.is) in
-    let k = takes c.args.table.now c.args.directory c.args.time c.requires c.if-time-gt1099511627775.false (sym c.slot_of-there.ensures ∙ c.in-At-there.is) c.read-p.ensures in
+    let a = c.args in
+    let p = slot_held a.table.now a.id c.in-At.i (sym c.slot_of-found.ensures ∙ c.in-At.is) in
+    let q = slot_held a.table.now a.directory c.in-At-there.j (sym c.slot_of-there.ensures ∙ c.in-At-there.is) in
+    let k = takes a.table.now a.directory a.time c.requires c.if-time-gt1099511627775.false (sym c.slot_of-there.ensures ∙ c.in-At-there.is) c.read-p.ensures in
     instead _
-    (ap (λ (n : Name). renamed_in c.args.time n (table_of c.args.table.now) c.read-h.result c.read-p.result) c.from-given.ensures
-    ∙ sym (rename_in_law c.args.time c.args.id c.args.directory c.args.name.now (table_of c.args.table.now) c.if-time-gt1099511627775.false (ap is_name (sym c.from-given.ensures) ∙ (sym c.is_name.ensures ∙ c.if-not-is_name.false)) c.read-h.result c.read-p.result
+    (ap (λ (n : Name). renamed_in a.time n (table_of a.table.now) c.read-h.result c.read-p.result) c.from-given.ensures
+    ∙ sym (rename_in_law a.time a.id a.directory a.name.now (table_of a.table.now) c.if-time-gt1099511627775.false
+    (ap is_name (sym c.from-given.ensures) ∙ (sym c.is_name.ensures ∙ c.if-not-is_name.false)) c.read-h.result c.read-p.result
     (p.1 ∙ ap some (sym c.read-h.ensures)) (q.1 ∙ ap some (sym c.read-p.ensures)) k.1))
     c.rename_held.ensures

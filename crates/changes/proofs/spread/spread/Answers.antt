@@ -1,7 +1,6 @@
 -- `changes::spread::spread` meets its contract. Assumes nothing.
-use native.Mathlib.Omega.{arith}
-use mathlib.Core.Path.{ap, sym, ◌∙◌}
-use Prim.Native.Nat.{ℕ}
+use Rattle.std.proofs.Common.{arith, ap, sym, ◌∙◌}
+use Rattle.std.specs.Prelude.{ℕ}
 use Rattle.answers.specs.Answers.{refuses, instead}
 use Rattle.document.specs.Tables.{table_of}
 use Rattle.numbers.specs.Nodes.{is_set}
@@ -20,16 +19,26 @@ pub is_set-requires : goal.is_set-requires
 is_set-requires c = omega (arith, c.get_u8.ensures, nodes_at c.args.table.now, nodes_few c.args.table.now c.requires)
 
 pub returns-then-not-is_set : goal.returns-then-not-is_set
-returns-then-not-is_set c = refuses _ (spread_2 c.args.id c.args.set (table_of c.args.table.now) (sym (ap (λ (n : ℕ). is_set n c.args.set) (c.get_u8.ensures ∙ nodes_at c.args.table.now)) ∙ (sym c.is_set.ensures ∙ c.if-not-is_set.true)))
+returns-then-not-is_set c =
+    let a = c.args in
+    refuses _ (spread_2 a.id a.set (table_of a.table.now) (sym (ap (λ (n : ℕ). is_set n a.set) (c.get_u8.ensures ∙ nodes_at a.table.now)) ∙
+    (sym c.is_set.ensures ∙ c.if-not-is_set.true)))
 
 pub slot_of-found-requires : goal.slot_of-found-requires
 slot_of-found-requires c = sound_length c.args.table.now c.requires
 
 pub returns-in_default : goal.returns-in_default
-returns-in_default c = refuses _ (spread_6 c.args.id c.args.set (table_of c.args.table.now) (sym (ap (λ (n : ℕ). is_set n c.args.set) (c.get_u8.ensures ∙ nodes_at c.args.table.now)) ∙ (sym c.is_set.ensures ∙ c.if-not-is_set.false)) (slot_none c.args.table.now c.args.id (λ n. (c.slice_known-1.given n).fits) (sym c.slot_of-found.ensures ∙ c.in_default.is)))
+returns-in_default c =
+    let a = c.args in
+    refuses _ (spread_6 a.id a.set (table_of a.table.now) (sym (ap (λ (n : ℕ). is_set n a.set) (c.get_u8.ensures ∙ nodes_at a.table.now)) ∙
+    (sym c.is_set.ensures ∙ c.if-not-is_set.false))
+    (slot_none a.table.now a.id (λ n. (c.slice_known-1.given n).fits) (sym c.slot_of-found.ensures ∙ c.in_default.is)))
 
 pub overflow_cast-set : goal.overflow_cast-set
-overflow_cast-set c = let q = set_below c.args.table.now c.requires c.args.set (sym (ap (λ (n : ℕ). is_set n c.args.set) (c.get_u8.ensures ∙ nodes_at c.args.table.now)) ∙ (sym c.is_set.ensures ∙ c.if-not-is_set.false)) in omega (arith, q)
+overflow_cast-set c =
+    let a = c.args in
+    let q = set_below a.table.now c.requires a.set (sym (ap (λ (n : ℕ). is_set n a.set) (c.get_u8.ensures ∙ nodes_at a.table.now)) ∙
+    (sym c.is_set.ensures ∙ c.if-not-is_set.false)) in omega (arith, q)
 
 pub overflow_mul-i : goal.overflow_mul-i
 overflow_mul-i c =
@@ -47,9 +56,14 @@ read-requires c =
     omega (arith, p.0, sound_length c.args.table.now c.requires)
 
 pub spread_held-requires : goal.spread_held-requires
-spread_held-requires c = (spreads c.args.table.now c.args.id c.args.set c.requires (sym (ap (λ (n : ℕ). is_set n c.args.set) (c.get_u8.ensures ∙ nodes_at c.args.table.now)) ∙ (sym c.is_set.ensures ∙ c.if-not-is_set.false)) (sym c.slot_of-found.ensures ∙ c.in-At.is) c.read.ensures).0
+spread_held-requires c =
+    let a = c.args in
+    (spreads a.table.now a.id a.set c.requires (sym (ap (λ (n : ℕ). is_set n a.set) (c.get_u8.ensures ∙ nodes_at a.table.now)) ∙
+    (sym c.is_set.ensures ∙ c.if-not-is_set.false)) (sym c.slot_of-found.ensures ∙ c.in-At.is) c.read.ensures).0
 
 pub returns : goal.returns
 returns c =
-    let k = spreads c.args.table.now c.args.id c.args.set c.requires (sym (ap (λ (n : ℕ). is_set n c.args.set) (c.get_u8.ensures ∙ nodes_at c.args.table.now)) ∙ (sym c.is_set.ensures ∙ c.if-not-is_set.false)) (sym c.slot_of-found.ensures ∙ c.in-At.is) c.read.ensures in
-    instead _ (ap (λ (i : ℕ). spread_in i c.args.set (table_of c.args.table.now)) k.1) c.spread_held.ensures
+    let a = c.args in
+    let k = spreads a.table.now a.id a.set c.requires (sym (ap (λ (n : ℕ). is_set n a.set) (c.get_u8.ensures ∙ nodes_at a.table.now)) ∙
+    (sym c.is_set.ensures ∙ c.if-not-is_set.false)) (sym c.slot_of-found.ensures ∙ c.in-At.is) c.read.ensures in
+    instead _ (ap (λ (i : ℕ). spread_in i a.set (table_of a.table.now)) k.1) c.spread_held.ensures

@@ -1,5 +1,5 @@
 -- `changes::spread::spread_held` meets its contract. Assumes nothing.
-use mathlib.Core.Path.{ap, ◌∙◌}
+use Rattle.std.proofs.Common.{ap, ◌∙◌}
 use Rattle.answers.specs.Answers.{instead}
 use Rattle.steps.specs.Standing.{sound_stands}
 use Rattle.document.specs.Steps.{with_holders}

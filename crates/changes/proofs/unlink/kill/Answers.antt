@@ -1,5 +1,5 @@
 -- `changes::unlink::kill` meets its contract. Assumes nothing.
-use native.Mathlib.Omega.{arith}
+use Rattle.std.proofs.Common.{arith}
 use Rattle.answers.specs.Answers.{instead}
 use Rattle.steps.specs.Standing.{sound_stands}
 use Rattle.changes.specs.Working.{copy_stands, copy_clock}
@@ -10,7 +10,12 @@ pub copy_of-copy-requires : goal.copy_of-copy-requires
 copy_of-copy-requires c = (sound_stands c.args.table.now c.requires.sound (λ n. (c.slice_known-1.given n).fits)).size
 
 pub draw-stamp-requires : goal.draw-stamp-requires
-draw-stamp-requires c = (copy_stands c.requires.sound (λ n. (c.slice_known-1.given n).fits) c.copy_of-copy.ensures, omega (arith, copy_clock c.requires.sound c.copy_of-copy.ensures), omega (arith, c.requires.early))
+draw-stamp-requires c = (
+  copy_stands c.requires.sound (λ n. (c.slice_known-1.given n).fits) c.copy_of-copy.ensures,
+  omega
+      (arith, copy_clock c.requires.sound c.copy_of-copy.ensures),
+  omega (arith, c.requires.early),
+)
 
 pub change-requires : goal.change-requires
 change-requires c = kill_changes c.requires _ _ c.copy_of-copy.ensures _ _ c.dead.ensures c.draw-stamp.ensures.1

@@ -1,7 +1,6 @@
 -- `changes::unlink::unlink` meets its contract. Assumes nothing.
-use native.Mathlib.Omega.{arith}
-use mathlib.Core.Path.{ap, sym, ◌∙◌}
-use Prim.Native.Nat.{ℕ}
+use Rattle.std.proofs.Common.{arith, ap, sym, ◌∙◌}
+use Rattle.std.specs.Prelude.{ℕ}
 use Rattle.answers.specs.Answers.{refuses, instead}
 use Rattle.document.specs.Tables.{table_of}
 use Rattle.document.specs.Calls.{unlink_in}
@@ -17,7 +16,10 @@ pub slot_of-found-requires : goal.slot_of-found-requires
 slot_of-found-requires c = sound_length c.args.table.now c.requires
 
 pub returns-in_default : goal.returns-in_default
-returns-in_default c = refuses _ (unlink_6 c.args.time c.args.id (table_of c.args.table.now) c.if-time-gt1099511627775.false (slot_none c.args.table.now c.args.id (λ n. (c.slice_known-1.given n).fits) (sym c.slot_of-found.ensures ∙ c.in_default.is)))
+returns-in_default c =
+    let a = c.args in
+    refuses _ (unlink_6 a.time a.id (table_of a.table.now) c.if-time-gt1099511627775.false
+    (slot_none a.table.now a.id (λ n. (c.slice_known-1.given n).fits) (sym c.slot_of-found.ensures ∙ c.in_default.is)))
 
 pub overflow_mul-i : goal.overflow_mul-i
 overflow_mul-i c =
@@ -35,7 +37,9 @@ read-requires c =
     omega (arith, p.0, sound_length c.args.table.now c.requires)
 
 pub unlink_held-requires : goal.unlink_held-requires
-unlink_held-requires c = (takes c.args.table.now c.args.id c.args.time c.requires c.if-time-gt1099511627775.false (sym c.slot_of-found.ensures ∙ c.in-At.is) c.read.ensures).0
+unlink_held-requires c =
+    let a = c.args in
+    (takes a.table.now a.id a.time c.requires c.if-time-gt1099511627775.false (sym c.slot_of-found.ensures ∙ c.in-At.is) c.read.ensures).0
 
 pub returns : goal.returns
 returns c =

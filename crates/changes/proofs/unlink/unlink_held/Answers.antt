@@ -1,5 +1,5 @@
 -- `changes::unlink::unlink_held` meets its contract. Assumes nothing.
-use mathlib.Core.Path.{sym}
+use Rattle.std.proofs.Common.{sym}
 use Rattle.answers.specs.Answers.{refuses, instead}
 use Rattle.changes.specs.Killing.{unlink_7, unlink_8, unlink_kills}
 use Rattle.changes.proofs.unlink.unlink_held.Goals as goal

@@ -1,7 +1,6 @@
 -- `judge::heads::agrees` meets its contract: one that is held, or one that is not. Assumes nothing.
-use mathlib.Core.Path.{ap, sym, ◌∙◌}
+use Rattle.std.proofs.Common.{ap, sym, ◌∙◌, arith}
 use mathlib.Core.Option.{some}
-use native.Mathlib.Omega.{arith}
 use Rattle.document.specs.Tables.{table_of}
 use Rattle.document.specs.Reading.{few_replicas}
 use Rattle.table.specs.Rules.{found_head, not_found}

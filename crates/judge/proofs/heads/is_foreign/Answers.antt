@@ -1,5 +1,5 @@
 -- `judge::heads::is_foreign` meets its contract. Assumes nothing.
-use mathlib.Core.Path.{◌≡◌, ap, ◌∙◌}
+use Rattle.std.proofs.Common.{◌≡◌, ap, ◌∙◌}
 use Rattle.slots.specs.declared.table_header.TableHeader.{TableHeader}
 use Rattle.document.specs.Tables.{table_of}
 use Rattle.steps.specs.States.{header_read}

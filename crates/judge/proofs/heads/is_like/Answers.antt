@@ -1,7 +1,6 @@
 -- `judge::heads::is_like` meets its contract: kind, place and depth, stamp, flag, place. Assumes nothing.
-use mathlib.Core.Path.{ap, sym, ◌∙◌}
-use mathlib.Core.Bool.{not}
-use borrow.Author.Tests.{eq-eqb, ne_eqb}
+use Rattle.std.proofs.Common.{ap, sym, ◌∙◌, eq-eqb, ne_eqb}
+use Rattle.std.specs.Prelude.{not}
 use Rattle.codec.specs.Lists.{and_stop, and_go, or_stop, or_go}
 use Rattle.judge.specs.Deciding.{like_tests}
 use Rattle.judge.proofs.heads.is_like.Goals as goal

@@ -1,7 +1,6 @@
 -- `judge::heads::is_steady` meets its contract: a file, or the place and the depth. Assumes nothing.
-use mathlib.Core.Path.{refl, ap, sym, ◌∙◌}
-use mathlib.Core.Bool.{not}
-use borrow.Author.Tests.{eq-eqb, ne_eqb}
+use Rattle.std.specs.Prelude.{refl, not}
+use Rattle.std.proofs.Common.{ap, sym, ◌∙◌, eq-eqb, ne_eqb}
 use Rattle.codec.specs.Lists.{and_stop, and_go, or_stop, or_go}
 use Rattle.judge.specs.Deciding.{steady_tests}
 use Rattle.judge.proofs.heads.is_steady.Goals as goal

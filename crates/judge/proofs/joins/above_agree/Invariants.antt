@@ -1,7 +1,7 @@
 -- `judge::joins::above_agree` meets its contract. The loop's invariant: all agree exactly if those from j on do.
 -- Assumes nothing.
-use mathlib.Core.Path.{◌≡◌}
-use Prim.Native.Nat.{ℕ, ◌-◌, ◌≤◌}
+use Rattle.std.proofs.Common.{◌≡◌, ◌-◌, ◌≤◌}
+use Rattle.std.specs.Prelude.{ℕ}
 use Rattle.document.specs.Tables.{every_slot, table_of}
 use Rattle.judge.specs.Judging.{made_agrees, above_agree}
 use Rattle.document.specs.ReadingMessages.{head_in}

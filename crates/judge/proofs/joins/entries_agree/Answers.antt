@@ -1,8 +1,7 @@
 -- `judge::joins::entries_agree` meets its contract. The loop's invariant: all agree exactly if those from j on do.
 -- Assumes nothing.
-use mathlib.Core.Path.{refl, ap, sym, ◌∙◌}
-use mathlib.Core.Bool.{not}
-use native.Mathlib.Omega.{arith}
+use Rattle.std.specs.Prelude.{refl, not}
+use Rattle.std.proofs.Common.{ap, sym, ◌∙◌, arith}
 use native.Mathlib.Nat.{sub-zero}
 use Rattle.codec.specs.Lists.{and_stop, and_go}
 use Rattle.records.specs.declared.entry.Entry.{Entry}

@@ -1,8 +1,7 @@
 -- `judge::joins::entries_agree` meets its contract. The loop's invariant: all agree exactly if those from j on do.
 -- Assumes nothing.
-use mathlib.Core.Path.{◌≡◌}
-use mathlib.Core.Bool.{not}
-use Prim.Native.Nat.{ℕ, ◌-◌, ◌≤◌}
+use Rattle.std.proofs.Common.{◌≡◌, ◌-◌, ◌≤◌}
+use Rattle.std.specs.Prelude.{not, ℕ}
 use Rattle.records.specs.Entries.{entry_at}
 use Rattle.document.specs.Tables.{every_slot, table_of}
 use Rattle.document.specs.Steps.{odd_join}

@@ -1,6 +1,5 @@
 -- `judge::joins::made_agrees` meets its contract: one that is held, or one that is not. Assumes nothing.
-use mathlib.Core.Path.{sym, ◌∙◌}
-use native.Mathlib.Omega.{arith}
+use Rattle.std.proofs.Common.{sym, ◌∙◌, arith}
 use Rattle.document.specs.Tables.{table_of}
 use Rattle.document.specs.Reading.{few_replicas}
 use Rattle.table.specs.Rules.{found_head, not_found}

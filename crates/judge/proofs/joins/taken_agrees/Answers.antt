@@ -1,6 +1,6 @@
 -- `judge::joins::taken_agrees` meets its contract: the entry at the place, and the strike. Assumes nothing.
-use mathlib.Core.Path.{ap, sym, ◌∙◌}
-use mathlib.Core.Bool.{not}
+use Rattle.std.proofs.Common.{ap, sym, ◌∙◌}
+use Rattle.std.specs.Prelude.{not}
 use Rattle.codec.specs.Lists.{and_stop, and_go, or_stop, or_go}
 use Rattle.slots.specs.declared.listed.Listed.{Listed}
 use Rattle.document.specs.Tables.{table_of}

@@ -1,8 +1,7 @@
 -- `merge::clocks::of_entries` meets its contract. The loop's invariant: the clocks that are left lead to the answer.
 -- Assumes nothing.
-use native.Mathlib.Omega.{arith}
-use mathlib.Core.Path.{ap, sym, ◌∙◌}
-use Prim.Native.Nat.{ℕ, ◌+◌, ◌*◌}
+use Rattle.std.proofs.Common.{arith, ap, sym, ◌∙◌, ◌+◌, ◌*◌}
+use Rattle.std.specs.Prelude.{ℕ}
 use Rattle.merge.specs.Clocks.{entry_stamp, high_start, high_next, high_end}
 use Rattle.records.specs.declared.entry.Entry.{Entry}
 use Rattle.records.specs.Entries.{entry_at}

@@ -1,7 +1,6 @@
 -- `merge::clocks::of_entries` meets its contract. The loop's invariant: the clocks that are left lead to the answer.
 -- Assumes nothing.
-use mathlib.Core.Path.{◌≡◌}
-use Prim.Native.Nat.{◌-◌, ◌≤◌}
+use Rattle.std.proofs.Common.{◌≡◌, ◌-◌, ◌≤◌}
 use Rattle.document.specs.Tables.{slots_from}
 use Rattle.document.specs.Receive.{highest}
 use Rattle.merge.specs.Clocks.{entry_stamp}

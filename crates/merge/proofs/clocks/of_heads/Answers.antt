@@ -1,7 +1,6 @@
 -- `merge::clocks::of_heads` meets its contract. The loop's invariant: the clocks that are left lead to the answer.
 -- Assumes nothing.
-use native.Mathlib.Omega.{arith}
-use mathlib.Core.Path.{ap, sym, ◌∙◌}
+use Rattle.std.proofs.Common.{arith, ap, sym, ◌∙◌}
 use Rattle.merge.specs.Clocks.{head_stamp, high_start, high_next, high_end}
 use Rattle.records.specs.declared.head.Head.{Head}
 use Rattle.merge.proofs.clocks.of_heads.Goals as goal

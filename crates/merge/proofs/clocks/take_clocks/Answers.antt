@@ -1,8 +1,7 @@
 -- `merge::clocks::take_clocks` meets its contract: the header with the clock that is the highest then. Assumes nothing.
+use Rattle.std.proofs.Common.{arith, ap, ◌∙◌}
+use Rattle.std.specs.Prelude.{ℕ}
 use borrow.Author.Rules.{rules}
-use native.Mathlib.Omega.{arith}
-use mathlib.Core.Path.{ap, ◌∙◌}
-use Prim.Native.Nat.{ℕ}
 use Rattle.messages.specs.declared.push_header.PushHeader.{PushHeader}
 use Rattle.document.specs.Tables.{slots_from}
 use Rattle.document.specs.Receive.{highest}

@@ -1,12 +1,10 @@
 -- `merge::entries::join_all` meets its contract: the message's entries, then those that are set. Assumes nothing.
-use mathlib.Core.Path.{refl}
-use mathlib.Core.List.Memᴰ
 use Rattle.document.specs.Tables.{table_of}
 use Rattle.document.specs.Messages.{message_of}
 use Rattle.document.specs.Receive.{joined_in, set_in}
 use Rattle.merge.specs.Working.{made_as}
 use Rattle.merge.specs.Entries.{both_full, both_works, both_held, both_then}
-use mathlib.Core.Path.{sym, ◌∙◌}
+use mathlib.Core.List.Memᴰ
 use Rattle.merge.proofs.entries.join_all.Goals as goal
 
 pub join_entries-requires : goal.join_entries-requires
@@ -20,7 +18,7 @@ returns-then-not-join_entries c =
     let join-entries = c.join_entries in
     both_full (joined_in (message_of args.message.now))
     (set_in (table_of args.old.now) (message_of args.message.now)) args.t.now
-    (made_as (sym refl ∙ c.if-not-join_entries.true) join-entries.ensures)
+    (made_as c.if-not-join_entries.true join-entries.ensures)
 
 pub set_in-requires : goal.set_in-requires
 set_in-requires c =
@@ -30,12 +28,12 @@ set_in-requires c =
     let if1 = c.if-not-join_entries in (
       both_works (joined_in (message_of args.message.now))
           (set_in (table_of args.old.now) (message_of args.message.now)) args.t.now
-          (made_as (sym refl ∙ if1.false) join-entries.ensures) pre.0 pre.3,
+          (made_as if1.false join-entries.ensures) pre.0 pre.3,
       pre.1,
       pre.2,
       both_held (joined_in (message_of args.message.now))
           (set_in (table_of args.old.now) (message_of args.message.now)) args.t.now
-          (made_as (sym refl ∙ if1.false) join-entries.ensures) pre.3,
+          (made_as if1.false join-entries.ensures) pre.3,
     )
 
 pub returns : goal.returns
@@ -45,4 +43,4 @@ returns c =
     let if1 = c.if-not-join_entries in
     both_then (joined_in (message_of args.message.now))
     (set_in (table_of args.old.now) (message_of args.message.now)) args.t.now
-    (made_as (sym refl ∙ if1.false) join-entries.ensures) c.set_in.ensures
+    (made_as if1.false join-entries.ensures) c.set_in.ensures

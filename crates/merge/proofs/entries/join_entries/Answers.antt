@@ -1,8 +1,7 @@
 -- `merge::entries::join_entries` meets its contract. The loop's invariant: what is left to join leads to the outcome.
 -- Assumes nothing.
-use native.Mathlib.Omega.{arith}
-use mathlib.Core.Path.{refl, ap}
-use Prim.Native.Nat.{◌+◌, ◌*◌}
+use Rattle.std.proofs.Common.{arith, ap, ◌+◌, ◌*◌}
+use Rattle.std.specs.Prelude.{refl}
 use Rattle.messages.specs.declared.push_header.PushHeader.{PushHeader}
 use Rattle.records.specs.declared.head.Head.{Head}
 use Rattle.document.specs.Tables.{table_of}
@@ -12,7 +11,6 @@ use Rattle.document.specs.Receive.{joined_in}
 use Rattle.merge.specs.Turns.{turn_full, turn_next, turn_end}
 use Rattle.merge.specs.Message.{entries_in, listed_at, same_listed}
 use Rattle.merge.specs.Entries.{entering_start}
-use mathlib.Core.Path.{sym, ◌∙◌}
 use Rattle.merge.proofs.entries.join_entries.Goals as goal
 
 pub read-header-requires : goal.read-header-requires
@@ -69,7 +67,7 @@ returns-then-not-set c =
     (join_all (joined_in (message_of args.message.now)) (table_of args.t.now))
     loop.i loop.invariant.4 (omega (arith, loop-test.true, loop.invariant.1)) _
     (same_listed args.message.now loop.i loop.invariant.2 loop.invariant.3 read3.ensures) _ set.ensures.0
-    set.ensures.1 (sym refl ∙ c.if-not-set.true)
+    set.ensures.1 c.if-not-set.true
 
 pub loop-i-preserved : goal.loop-i-preserved
 loop-i-preserved c =
@@ -83,7 +81,7 @@ loop-i-preserved c =
     (join_all (joined_in (message_of args.message.now)) (table_of args.t.now))
     loop.i loop.invariant.4 (omega (arith, loop-test.true, loop.invariant.1)) _
     (same_listed args.message.now loop.i loop.invariant.2 loop.invariant.3 read3.ensures) _ set.ensures.0
-    set.ensures.1 (sym refl ∙ c.if-not-set.false) in (
+    set.ensures.1 c.if-not-set.false in (
       omega (arith, loop-test.true),
       loop.invariant.1,
       loop.invariant.2,

@@ -1,8 +1,6 @@
 -- `merge::entries::join_entries` meets its contract. The loop's invariant: what is left to join leads to the outcome.
 -- Assumes nothing.
-use mathlib.Core.Path.{◌≡◌}
-use Prim.Native.Nat.{◌+◌, ◌-◌, ◌*◌, ◌≤◌}
-use lib.ListN.{length}
+use Rattle.std.proofs.Common.{◌≡◌, ◌+◌, ◌-◌, ◌*◌, ◌≤◌, length}
 use Rattle.merge.specs.Message.{heads_in, entries_in}
 use Rattle.merge.specs.Entries.{Entering}
 use Rattle.document.specs.ReadingMessages.{head_in}

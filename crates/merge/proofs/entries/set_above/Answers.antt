@@ -1,11 +1,9 @@
 -- `merge::entries::set_above` meets its contract. The loop's invariant: the heads from j on are through. Assumes nothing.
-use native.Mathlib.Omega.{arith}
-use mathlib.Core.Path.{refl, ap, sym, subst}
-use Prim.Native.Nat.{ℕ}
+use Rattle.std.proofs.Common.{arith, ap, sym, subst}
+use Rattle.std.specs.Prelude.{refl, ℕ}
 use Rattle.messages.specs.declared.push_header.PushHeader.{PushHeader}
 use Rattle.document.specs.Tables.{table_of}
 use Rattle.merge.specs.Entries.{Setting, setting_start, setting_turn, setting_full, setting_end, setting_held_now}
-use mathlib.Core.Path.{◌∙◌}
 use Rattle.merge.proofs.entries.set_above.Goals as goal
 
 pub read-j-requires : goal.read-j-requires
@@ -54,7 +52,7 @@ returns-then-not-set_if_made c =
     let read2 = c.read-h in
     let set-if-made = c.set_if_made in
     setting_full args.message.now (table_of args.old.now) (table_of args.t.now) _ loop.invariant
-    loop-test.true _ read2.ensures _ set-if-made.ensures (sym refl ∙ c.if-not-set_if_made.true)
+    loop-test.true _ read2.ensures _ set-if-made.ensures c.if-not-set_if_made.true
 
 pub loop-j-preserved : goal.loop-j-preserved
 loop-j-preserved c =
@@ -64,7 +62,7 @@ loop-j-preserved c =
     let read2 = c.read-h in
     let set-if-made = c.set_if_made in
     setting_turn args.message.now (table_of args.old.now) (table_of args.t.now) _ loop.invariant
-    loop-test.true _ read2.ensures _ set-if-made.ensures (sym refl ∙ c.if-not-set_if_made.false)
+    loop-test.true _ read2.ensures _ set-if-made.ensures c.if-not-set_if_made.false
 
 pub returns : goal.returns
 returns c =

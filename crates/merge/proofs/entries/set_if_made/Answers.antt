@@ -1,5 +1,5 @@
 -- `merge::entries::set_if_made` meets its contract. Assumes nothing.
-use mathlib.Core.Path.{sym, ◌∙◌}
+use Rattle.std.proofs.Common.{sym, ◌∙◌}
 use Rattle.document.specs.Tables.{table_of}
 use Rattle.table.specs.Rules.{found_head, not_found}
 use Rattle.merge.specs.Entries.{setting_held, setting_made}

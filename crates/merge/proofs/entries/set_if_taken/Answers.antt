@@ -1,6 +1,5 @@
 -- `merge::entries::set_if_taken` meets its contract: made, taken, or as it was. Assumes nothing.
-use native.Mathlib.Omega.{arith}
-use mathlib.Core.Path.{ap, sym, ◌∙◌}
+use Rattle.std.proofs.Common.{arith, ap, sym, ◌∙◌}
 use mathlib.Core.Option.{some}
 use Rattle.document.specs.Tables.{table_of}
 use Rattle.table.specs.Rules.{found_head, not_found}

@@ -1,13 +1,11 @@
 -- `merge::entries::set_in` meets its contract: the heads above, then the pushed replica. Assumes nothing.
-use native.Mathlib.Omega.{arith}
-use mathlib.Core.Path.{refl}
-use mathlib.Core.List.Memᴰ
+use Rattle.std.proofs.Common.{arith}
 use Rattle.document.specs.Tables.{head_of, table_of}
 use Rattle.document.specs.Messages.{message_of}
 use Rattle.document.specs.Receive.{set_above, set_if_taken}
 use Rattle.merge.specs.Working.{made_as}
 use Rattle.merge.specs.Entries.{both_full, both_works, first_held, first_then}
-use mathlib.Core.Path.{sym, ◌∙◌}
+use mathlib.Core.List.Memᴰ
 use Rattle.merge.proofs.entries.set_in.Goals as goal
 
 pub set_above-requires : goal.set_above-requires
@@ -22,7 +20,7 @@ returns-then-not-set_above c =
     both_full (set_above (table_of args.old.now) (message_of args.message.now).above)
     (set_if_taken (head_of (table_of args.old.now) (message_of args.message.now).first.id)
     (message_of args.message.now).first) args.t.now
-    (made_as (sym refl ∙ c.if-not-set_above.true) set-above.ensures)
+    (made_as c.if-not-set_above.true set-above.ensures)
 
 pub read-requires : goal.read-requires
 read-requires c =
@@ -38,10 +36,10 @@ set_if_taken-requires c =
       both_works (set_above (table_of args.old.now) (message_of args.message.now).above)
           (set_if_taken (head_of (table_of args.old.now) (message_of args.message.now).first.id)
           (message_of args.message.now).first) args.t.now
-          (made_as (sym refl ∙ if1.false) set-above.ensures) pre.0 pre.3,
+          (made_as if1.false set-above.ensures) pre.0 pre.3,
       pre.1,
       first_held args.message.now (table_of args.old.now) args.t.now
-          (made_as (sym refl ∙ if1.false) set-above.ensures) _ c.read.ensures pre.3,
+          (made_as if1.false set-above.ensures) _ c.read.ensures pre.3,
     )
 
 pub returns : goal.returns
@@ -51,5 +49,5 @@ returns c =
     let if1 = c.if-not-set_above in
     let read = c.read in
     first_then args.message.now (table_of args.old.now) args.t.now
-    (made_as (sym refl ∙ if1.false) set-above.ensures) _ read.ensures
+    (made_as if1.false set-above.ensures) _ read.ensures
     c.set_if_taken.ensures

@@ -1,11 +1,9 @@
 -- `merge::heads::make_above` meets its contract. The loop's invariant: the heads from j on are through. Assumes nothing.
-use native.Mathlib.Omega.{arith}
-use mathlib.Core.Path.{refl, ap, sym, subst}
-use Prim.Native.Nat.{ℕ}
+use Rattle.std.proofs.Common.{arith, ap, sym, subst}
+use Rattle.std.specs.Prelude.{refl, ℕ}
 use Rattle.messages.specs.declared.push_header.PushHeader.{PushHeader}
 use Rattle.document.specs.Tables.{table_of}
 use Rattle.merge.specs.Heads.{Making, making_start, making_turn, making_full, making_end}
-use mathlib.Core.Path.{◌∙◌}
 use Rattle.merge.proofs.heads.make_above.Goals as goal
 
 pub read-j-requires : goal.read-j-requires
@@ -47,7 +45,7 @@ returns-then-not-make_missing c =
     let read2 = c.read-h in
     let make-missing = c.make_missing in
     making_full args.message.now (table_of args.t.now) _ loop.invariant loop-test.true _ read2.ensures _
-    make-missing.ensures (sym refl ∙ c.if-not-make_missing.true)
+    make-missing.ensures c.if-not-make_missing.true
 
 pub loop-j-preserved : goal.loop-j-preserved
 loop-j-preserved c =
@@ -57,7 +55,7 @@ loop-j-preserved c =
     let read2 = c.read-h in
     let make-missing = c.make_missing in
     making_turn args.message.now (table_of args.t.now) _ loop.invariant loop-test.true _ read2.ensures _
-    make-missing.ensures (sym refl ∙ c.if-not-make_missing.false)
+    make-missing.ensures c.if-not-make_missing.false
 
 pub returns : goal.returns
 returns c =

@@ -1,6 +1,5 @@
 -- `merge::heads::make_missing` meets its contract: it is held, or not. Assumes nothing.
-use native.Mathlib.Omega.{arith}
-use mathlib.Core.Path.{sym, ◌∙◌}
+use Rattle.std.proofs.Common.{arith, sym, ◌∙◌}
 use Rattle.table.specs.Rules.{found_head, not_found}
 use Rattle.merge.specs.Heads.{missing_held, missing_made}
 use Rattle.merge.proofs.heads.make_missing.Goals as goal

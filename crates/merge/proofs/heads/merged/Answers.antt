@@ -1,6 +1,5 @@
 -- `merge::heads::merged` meets its contract. Assumes nothing.
-use native.Mathlib.Omega.{arith}
-use mathlib.Core.Path.{ap, sym, ◌∙◌}
+use Rattle.std.proofs.Common.{arith, ap, sym, ◌∙◌}
 use mathlib.Core.Option.{Option, some}
 use Rattle.records.specs.declared.head.Head.{Head}
 use Rattle.document.specs.Tables.{table_of}

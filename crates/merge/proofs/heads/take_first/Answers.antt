@@ -1,6 +1,5 @@
 -- `merge::heads::take_first` meets its contract. Assumes nothing.
-use native.Mathlib.Omega.{arith}
-use mathlib.Core.Path.{ap, sym, ◌∙◌}
+use Rattle.std.proofs.Common.{arith, ap, sym, ◌∙◌}
 use Rattle.document.specs.Tables.{table_of}
 use Rattle.document.specs.Receive.{step_c}
 use Rattle.records.specs.declared.head.Head.{Head}

@@ -1,8 +1,6 @@
 -- `merge::heads::take_heads` meets its contract: one step after the other. Assumes nothing.
-use mathlib.Core.Path.{refl}
 use Rattle.merge.specs.Clocks.{clocks_works}
 use Rattle.merge.specs.Heads.{clocks_owned, above_full, above_works, above_owned, above_then}
-use mathlib.Core.Path.{sym, ◌∙◌}
 use Rattle.merge.proofs.heads.take_heads.Goals as goal
 
 pub take_clocks-requires : goal.take_clocks-requires
@@ -26,7 +24,7 @@ returns-then-not-make_above c =
     let take-clocks = c.take_clocks in
     let make-above = c.make_above in
     above_full args.message.now pre.0 pre.1 take-clocks.ensures
-    make-above.ensures (sym refl ∙ c.if-not-make_above.true)
+    make-above.ensures c.if-not-make_above.true
 
 pub take_first-requires : goal.take_first-requires
 take_first-requires c =
@@ -36,9 +34,9 @@ take_first-requires c =
     let make-above = c.make_above in
     let if1 = c.if-not-make_above in (
       above_works args.message.now pre.0 pre.1 take-clocks.ensures
-          make-above.ensures (sym refl ∙ if1.false),
+          make-above.ensures if1.false,
       above_owned args.message.now pre.0 pre.1 take-clocks.ensures
-          make-above.ensures (sym refl ∙ if1.false),
+          make-above.ensures if1.false,
       pre.2,
     )
 
@@ -50,4 +48,4 @@ returns c =
     let make-above = c.make_above in
     let if1 = c.if-not-make_above in
     above_then args.message.now pre.0 pre.1 take-clocks.ensures
-    make-above.ensures (sym refl ∙ if1.false) c.take_first.ensures
+    make-above.ensures if1.false c.take_first.ensures

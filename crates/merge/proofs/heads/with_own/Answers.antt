@@ -1,6 +1,5 @@
 -- `merge::heads::with_own` meets its contract. Assumes nothing.
-use native.Mathlib.Omega.{arith}
-use mathlib.Core.Path.{ap, ◌∙◌}
+use Rattle.std.proofs.Common.{arith, ap, ◌∙◌}
 use Rattle.numbers.specs.Nodes.{join, single}
 use Rattle.document.specs.Steps.{with_holders}
 use Rattle.document.specs.Reading.{own_at}

@@ -1,7 +1,6 @@
 -- `merge::live::make_live` and `merge::live::set_entry`, which call each other, meet their contracts: depth falls at each
 -- turn. Assumes nothing.
-use mathlib.Core.Path.{sym, ◌∙◌}
-use native.Mathlib.Omega.{arith}
+use Rattle.std.proofs.Common.{sym, ◌∙◌, arith}
 use Rattle.merge.specs.Working.{made_as}
 use Rattle.merge.specs.Live.{light_low, light_made, over_live, over_live_made, over_dead, over_full, over_next, over_made}
 use Rattle.merge.proofs.live.+make_live_set_entry.Goals as goal

@@ -1,5 +1,5 @@
 -- Depth falls at each turn of `merge::live::make_live` and `merge::live::set_entry`, which call each other. Assumes nothing.
-use Prim.Native.Nat.{◌+◌, ◌*◌}
+use Rattle.std.proofs.Common.{◌+◌, ◌*◌}
 use Rattle.merge.proofs.live.+make_live_set_entry.Given as goal
 
 abbrev pub decreases-make_live : goal.decreases-make_live

@@ -1,6 +1,5 @@
 -- `merge::live::directory_of` meets its contract. Assumes nothing.
-use native.Mathlib.Omega.{arith}
-use mathlib.Core.Path.{ap, sym, ◌∙◌}
+use Rattle.std.proofs.Common.{arith, ap, sym, ◌∙◌}
 use Rattle.records.specs.declared.head.Head.{Head}
 use Rattle.document.specs.Steps.{directory_of}
 use Rattle.table.specs.Rules.{found_head, not_found}

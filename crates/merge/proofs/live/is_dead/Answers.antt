@@ -1,6 +1,5 @@
 -- `merge::live::is_dead` meets its contract. Assumes nothing.
-use native.Mathlib.Omega.{arith}
-use mathlib.Core.Path.{ap, sym, ◌∙◌}
+use Rattle.std.proofs.Common.{arith, ap, sym, ◌∙◌}
 use mathlib.Core.Option.{some}
 use Rattle.records.specs.declared.head.Head.{Head}
 use Rattle.document.specs.Steps.{is_dead}

@@ -1,8 +1,6 @@
 -- `merge::live::mend` meets its contract: not held, dead, in a live directory, or in a dead one. Assumes nothing.
-use native.Mathlib.Omega.{arith}
-use mathlib.Core.Path.{ap, sym, ◌∙◌}
+use Rattle.std.proofs.Common.{arith, ap, sym, ◌∙◌, eq-eqb, ne_eqb}
 use mathlib.Core.Option.{some}
-use borrow.Author.Tests.{eq-eqb, ne_eqb}
 use Rattle.table.specs.Rules.{found_head, not_found}
 use Rattle.merge.specs.Live.{mend_none, mend_dead, mend_live, mend_low, mend_lights, mend_made}
 use Rattle.merge.proofs.live.mend.Goals as goal

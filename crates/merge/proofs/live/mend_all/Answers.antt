@@ -1,7 +1,6 @@
 -- `merge::live::mend_all` meets its contract. The loop's invariant: the slots from i on are left, and lead to the outcome.
 -- Assumes nothing.
-use native.Mathlib.Omega.{arith}
-use mathlib.Core.Path.{refl, sym, ◌∙◌}
+use Rattle.std.proofs.Common.{arith, sym, ◌∙◌}
 use Rattle.table.specs.Slots.{id_at}
 use Rattle.merge.specs.Working.{made_as}
 use Rattle.merge.specs.Live.{mending_start, mending_mends, mending_id, mending_full, mending_turn, mending_end}
@@ -56,7 +55,7 @@ returns-then-not-mend c =
     loop.invariant (omega (arith, loop-test.true, used.ensures.0))).1 in
     mending_full args.time args.t.now loop.i loop.invariant
     (omega (arith, loop-test.true, used.ensures.0)) _ id
-    (made_as (sym refl ∙ c.if-not-mend.true) mend.ensures)
+    (made_as c.if-not-mend.true mend.ensures)
 
 pub loop-i-preserved : goal.loop-i-preserved
 loop-i-preserved c =
@@ -70,7 +69,7 @@ loop-i-preserved c =
     loop.invariant (omega (arith, loop-test.true, used.ensures.0))).1 in
     mending_turn args.time args.t.now loop.i loop.invariant
     (omega (arith, loop-test.true, used.ensures.0)) _ id
-    (made_as (sym refl ∙ c.if-not-mend.false) mend.ensures)
+    (made_as c.if-not-mend.false mend.ensures)
 
 pub returns : goal.returns
 returns c =

@@ -1,6 +1,6 @@
 -- `merge::live::mend_all` meets its contract. The loop's invariant: the slots from i on are left, and lead to the outcome.
 -- Assumes nothing.
-use Prim.Native.Nat.{◌-◌}
+use Rattle.std.proofs.Common.{◌-◌}
 use Rattle.merge.specs.Live.{Mending}
 use Rattle.merge.proofs.live.mend_all.Given as goal
 

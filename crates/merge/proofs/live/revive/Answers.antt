@@ -1,6 +1,5 @@
 -- `merge::live::revive` meets its contract: the clock, then the state. Assumes nothing.
-use native.Mathlib.Omega.{arith}
-use mathlib.Core.Path.{ap, sym, ◌∙◌}
+use Rattle.std.proofs.Common.{arith, ap, sym, ◌∙◌}
 use mathlib.Core.Option.{some}
 use Rattle.table.specs.Rules.{found_head, not_found}
 use Rattle.merge.specs.Live.{revive_none, revive_ready, revive_made}

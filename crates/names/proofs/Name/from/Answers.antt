@@ -1,9 +1,8 @@
 -- `names::Name::from` meets its contract: a text copied over zeros is followed by zeros. Assumes nothing.
-use mathlib.Core.Path.{◌∙◌, refl}
-use Rattle.names.specs.Names.{from_short, from_long, name_ext}
-use mathlib.Core.Path.{◌∙◌}
-use Rattle.names.specs.Names.{from_short, from_long}
+use Rattle.std.proofs.Common.{◌∙◌}
+use Rattle.std.specs.Prelude.{refl}
 use borrow.Author.Rules.{rules}
+use Rattle.names.specs.Names.{from_short, from_long, name_ext}
 use Rattle.names.proofs.Name.from.Goals as goal
 
 pub returns-then-s-gt15 : goal.returns-then-s-gt15

@@ -1,12 +1,10 @@
 -- `names::Name::is_name` meets its contract: the length, the bytes used, and the others. Assumes nothing.
-use native.Mathlib.Omega.{arith}
-use mathlib.Core.Path.{◌≡◌, ap, sym, ◌∙◌}
-use lib.ListN.{length}
+use Rattle.std.proofs.Common.{arith, ◌≡◌, ap, sym, ◌∙◌, length}
 use borrow.Author.Tests.{lt-leb}
+use borrow.Author.Rules.{rules}
 use Rattle.codec.specs.Bytes.{all_are}
 use Rattle.codec.specs.Lists.{and_stop, and_go}
 use Rattle.names.specs.Names.{is_text, is_name, name_parts}
-use borrow.Author.Rules.{rules}
 use Rattle.names.proofs.Name.is_name.Goals as goal
 
 pub returns-then-len-gt15 : goal.returns-then-len-gt15

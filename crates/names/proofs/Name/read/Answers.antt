@@ -1,13 +1,10 @@
 -- `names::Name::read` meets its contract: fifteen bytes copied over fifteen zeros are those bytes. Assumes nothing.
-use native.Mathlib.Omega.{arith}
-use lib.ListN.{length}
-use mathlib.Core.Path.{◌≡◌, refl, ap, ◌∙◌}
-use Prim.Native.Nat.{◌+◌}
+use Rattle.std.proofs.Common.{arith, length, ◌≡◌, ap, ◌∙◌, ◌+◌}
+use Rattle.std.specs.Prelude.{refl}
+use borrow.Author.Rules.{rules}
 use Rattle.codec.specs.Bytes.{chunk, zeros}
 use Rattle.codec.specs.Laws.{length_chunk}
 use Rattle.names.specs.Names.{splice_whole, name_ext}
-use mathlib.Core.Path.{ap}
-use borrow.Author.Rules.{rules}
 use Rattle.names.proofs.Name.read.Goals as goal
 
 pub replace-requires : goal.replace-requires

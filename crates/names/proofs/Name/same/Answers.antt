@@ -1,5 +1,5 @@
 -- `names::Name::same` meets its contract: the lengths, then the bytes. Assumes nothing.
-use borrow.Author.Tests.{eq-eqb, ne_eqb}
+use Rattle.std.proofs.Common.{eq-eqb, ne_eqb}
 use Rattle.names.specs.Names.{same_name}
 use Rattle.names.proofs.Name.same.Goals as goal
 

@@ -1,11 +1,9 @@
 -- `names::Name::write` meets its contract: the length, and the fifteen bytes behind it. Assumes nothing.
-use native.Mathlib.Omega.{arith}
-use lib.ListN.{length}
-use mathlib.Core.Path.{◌≡◌, ap}
+use Rattle.std.proofs.Common.{arith, length, ◌≡◌, ap}
+use borrow.Author.Rules.{rules}
 use Rattle.codec.specs.Bytes.{u8}
 use Rattle.codec.specs.Laws.{length_splice}
 use Rattle.names.specs.Names.{name_put}
-use borrow.Author.Rules.{rules}
 use Rattle.names.proofs.Name.write.Goals as goal
 
 pub replace-requires : goal.replace-requires

@@ -1,5 +1,5 @@
 -- `numbers::ids::is_id` meets its contract: the root, or one that was made. Assumes nothing.
-use borrow.Author.Tests.{eq-eqb, ne_eqb}
+use Rattle.std.proofs.Common.{eq-eqb, ne_eqb}
 use Rattle.numbers.specs.Ids.{is_id}
 use Rattle.numbers.proofs.ids.is_id.Goals as goal
 

@@ -1,7 +1,7 @@
 -- `numbers::ids::is_stamp` meets its contract: the clock, then the node. Assumes nothing.
-use Prim.Native.Nat.{◌/◌, ◌^◌}
-use native.Mathlib.Omega.{arith}
-use borrow.Author.Tests.{lt-leb, le-leb, lt-ltb, le-ltb}
+use Rattle.std.specs.Prelude.{◌/◌, ◌^◌}
+use Rattle.std.proofs.Common.{arith, le-leb, lt-ltb, le-ltb}
+use borrow.Author.Tests.{lt-leb}
 use Rattle.numbers.specs.Ids.{is_stamp}
 use Rattle.numbers.proofs.ids.is_stamp.Goals as goal
 

@@ -1,7 +1,6 @@
 -- `numbers::ids::is_version` meets its contract: four bytes hold no number past the last version. Assumes nothing.
-use Prim.Native.Nat.{◌^◌}
-use mathlib.Core.Path.{sym}
-use borrow.Author.Tests.{lt-ltb}
+use Rattle.std.specs.Prelude.{◌^◌}
+use Rattle.std.proofs.Common.{sym, lt-ltb}
 use borrow.Author.Rules.{rules}
 use Rattle.codec.specs.Lists.{and_right}
 use Rattle.numbers.specs.Ids.{is_version}

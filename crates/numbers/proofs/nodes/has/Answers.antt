@@ -1,6 +1,6 @@
 -- `numbers::nodes::has` meets its contract: there is no node 0 and none above 8, and a bit for each other. Assumes nothing.
-use Rattle.numbers.specs.Laws.{has_none, has_at, has_above}
 use borrow.Author.Rules.{rules}
+use Rattle.numbers.specs.Laws.{has_none, has_at, has_above}
 use Rattle.numbers.proofs.nodes.has.Goals as goal
 
 pub returns-then-i-lt1 : goal.returns-then-i-lt1

@@ -1,5 +1,5 @@
 -- `numbers::nodes::join` meets its contract. Assumes nothing.
-use mathlib.Core.Path.{refl}
+use Rattle.std.specs.Prelude.{refl}
 use Rattle.numbers.specs.Nodes.{join}
 use Rattle.numbers.proofs.nodes.join.Goals as goal
 

@@ -1,6 +1,6 @@
 -- `numbers::nodes::single` meets its contract: one shifted up. Assumes nothing.
-use Rattle.numbers.specs.Laws.{single_none, single_at}
 use borrow.Author.Rules.{rules}
+use Rattle.numbers.specs.Laws.{single_none, single_at}
 use Rattle.numbers.proofs.nodes.single.Goals as goal
 
 pub returns-then-i-lt1 : goal.returns-then-i-lt1

@@ -1,8 +1,8 @@
 -- `numbers::nodes::without` meets its contract: a bit that stands is turned over. Assumes nothing.
-use mathlib.Core.Path.{sym, ◌∙◌}
+use Rattle.std.proofs.Common.{sym, ◌∙◌}
+use borrow.Author.Rules.{rules}
 use Rattle.numbers.specs.Nodes.{without}
 use Rattle.numbers.specs.Laws.{has_within}
-use borrow.Author.Rules.{rules}
 use Rattle.numbers.proofs.nodes.without.Goals as goal
 
 pub returns-then-not-has : goal.returns-then-not-has

@@ -1,10 +1,9 @@
 -- `pushes::judge::child_is_new` meets its contract. The loop's invariant: child and name are new exactly if no entry
 -- from j
 -- on has them. Assumes nothing.
-use mathlib.Core.Path.{◌≡◌, refl, ap, sym, ◌∙◌}
-use mathlib.Core.Bool.{not}
+use Rattle.std.proofs.Common.{◌≡◌, ap, sym, ◌∙◌, arith}
+use Rattle.std.specs.Prelude.{refl, not}
 use native.Mathlib.Nat.{sub-zero}
-use native.Mathlib.Omega.{arith}
 use borrow.Author.Rules.{rules}
 use Rattle.codec.specs.Lists.{and_stop, and_go}
 use Rattle.document.specs.Tables.{every_slot}

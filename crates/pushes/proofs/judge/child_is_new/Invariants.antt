@@ -1,10 +1,8 @@
 -- `pushes::judge::child_is_new` meets its contract. The loop's invariant: child and name are new exactly if no entry
 -- from j
 -- on has them. Assumes nothing.
-use mathlib.Core.Path.{◌≡◌}
-use mathlib.Core.Bool.{Bool, not}
-use mathlib.Core.List.{List}
-use Prim.Native.Nat.{ℕ, ◌-◌, ◌≤◌}
+use Rattle.std.proofs.Common.{◌≡◌, ◌-◌, ◌≤◌}
+use Rattle.std.specs.Prelude.{Bool, not, List, ℕ}
 use Rattle.document.specs.Tables.{every_slot}
 use Rattle.document.specs.Messages.{same_child_name}
 use Rattle.pushes.specs.Judging.{entry_in, child_new}

@@ -1,6 +1,6 @@
 -- `pushes::judge::ends_at_root` meets its contract: the root; the place, the depth. Assumes nothing.
-use mathlib.Core.Path.{refl}
-use borrow.Author.Tests.{eq-eqb, ne_eqb}
+use Rattle.std.specs.Prelude.{refl}
+use Rattle.std.proofs.Common.{eq-eqb, ne_eqb}
 use Rattle.codec.specs.Lists.{and_go, or_go}
 use Rattle.pushes.specs.Judging.{ends_at_root}
 use Rattle.pushes.proofs.judge.ends_at_root.Goals as goal

@@ -1,7 +1,6 @@
 -- `pushes::judge::entries_fine` meets its contract. The loop's invariant: each is fine exactly if each from i on is.
 -- Assumes nothing.
-use mathlib.Core.Path.{◌≡◌}
-use Prim.Native.Nat.{◌-◌, ◌≤◌}
+use Rattle.std.proofs.Common.{◌≡◌, ◌-◌, ◌≤◌}
 use Rattle.document.specs.Tables.{every_slot}
 use Rattle.pushes.specs.Judging.{entry_fine}
 use Rattle.pushes.proofs.judge.entries_fine.Given as goal

@@ -1,7 +1,6 @@
 -- `pushes::judge::entry_fine` meets its contract: the range, the child, those before it. Assumes nothing.
-use mathlib.Core.Path.{◌≡◌, ap, sym, ◌∙◌}
-use mathlib.Core.Bool.{not}
-use borrow.Author.Tests.{eq-eqb, ne_eqb}
+use Rattle.std.proofs.Common.{◌≡◌, ap, sym, ◌∙◌, eq-eqb, ne_eqb}
+use Rattle.std.specs.Prelude.{not}
 use Rattle.codec.specs.Lists.{and_stop, and_go}
 use Rattle.document.specs.Messages.{entry_spot}
 use Rattle.pushes.specs.Judging.{entry_in, entry_fine, child_at}

@@ -1,10 +1,9 @@
 -- `pushes::judge::first_fine` meets its contract: the range, the holders, the header. Assumes nothing.
-use mathlib.Core.Path.{◌≡◌, ap, ◌∙◌}
+use Rattle.std.proofs.Common.{◌≡◌, ap, ◌∙◌, sym}
 use Rattle.codec.specs.Lists.{and_stop, and_go}
 use Rattle.records.specs.declared.head.Head.{Head}
 use Rattle.document.specs.ReadingMessages.{head_in}
 use Rattle.pushes.specs.Judging.{held_by, top_fine, first_fine}
-use mathlib.Core.Path.{sym}
 use Rattle.pushes.proofs.judge.first_fine.Goals as goal
 
 pub returns-then-not-in_range : goal.returns-then-not-in_range

@@ -1,12 +1,10 @@
 -- `pushes::judge::head_fine` meets its contract: the range, the holders, the head before it, those before it.
 -- Assumes nothing.
-use mathlib.Core.Path.{◌≡◌, ap, ◌∙◌}
-use Prim.Native.Nat.{◌-◌}
+use Rattle.std.proofs.Common.{◌≡◌, ap, ◌∙◌, ◌-◌, sym}
 use Rattle.codec.specs.Lists.{and_stop, and_go}
 use Rattle.records.specs.declared.head.Head.{Head}
 use Rattle.document.specs.ReadingMessages.{head_in}
 use Rattle.pushes.specs.Judging.{held_by, linked, head_fine}
-use mathlib.Core.Path.{sym}
 use Rattle.pushes.proofs.judge.head_fine.Goals as goal
 
 pub returns-then-not-in_range : goal.returns-then-not-in_range

@@ -1,10 +1,8 @@
 -- `pushes::judge::header_fine` meets its contract: sixteen bytes, the ranges, from and to, the length.
 -- Assumes nothing.
-use mathlib.Core.Path.{ap, sym, ◌∙◌}
-use mathlib.Core.Bool.{not}
-use lib.Dec.{eqb}
-use lib.ListN.{length}
-use borrow.Author.Tests.{eq-eqb, ne_eqb, le-leb, lt-leb}
+use Rattle.std.proofs.Common.{ap, sym, ◌∙◌, length, eq-eqb, ne_eqb, le-leb}
+use Rattle.std.specs.Prelude.{not, eqb}
+use borrow.Author.Tests.{lt-leb}
 use Rattle.codec.specs.Lists.{and_stop, and_go}
 use Rattle.messages.specs.declared.push_header.PushHeader.{PushHeader}
 use Rattle.document.specs.Messages.{entry_spot}

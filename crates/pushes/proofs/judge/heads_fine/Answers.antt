@@ -1,8 +1,8 @@
 -- `pushes::judge::heads_fine` meets its contract. The loop's invariant: each above the first is fine exactly if each
 -- from i on is.
 -- Assumes nothing.
-use mathlib.Core.Path.{refl, sym, ◌∙◌}
-use native.Mathlib.Omega.{arith}
+use Rattle.std.specs.Prelude.{refl}
+use Rattle.std.proofs.Common.{sym, ◌∙◌, arith}
 use borrow.Author.Rules.{rules}
 use Rattle.codec.specs.Lists.{and_stop, and_go}
 use Rattle.table.specs.Slots.{slots_step, slots_none}

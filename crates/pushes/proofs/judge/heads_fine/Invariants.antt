@@ -1,8 +1,7 @@
 -- `pushes::judge::heads_fine` meets its contract. The loop's invariant: each above the first is fine exactly if each
 -- from i on is.
 -- Assumes nothing.
-use mathlib.Core.Path.{◌≡◌}
-use Prim.Native.Nat.{◌-◌, ◌≤◌}
+use Rattle.std.proofs.Common.{◌≡◌, ◌-◌, ◌≤◌}
 use Rattle.document.specs.Tables.{every_slot}
 use Rattle.pushes.specs.Judging.{head_fine}
 use Rattle.pushes.proofs.judge.heads_fine.Given as goal

@@ -1,10 +1,8 @@
 -- `pushes::judge::id_is_new` meets its contract. The loop's invariant: the id is new exactly if none from j on has it.
 -- Assumes nothing.
-use mathlib.Core.Path.{refl, ap, sym, ◌∙◌}
-use mathlib.Core.Bool.{not}
+use Rattle.std.specs.Prelude.{refl, not}
+use Rattle.std.proofs.Common.{ap, sym, ◌∙◌, arith, eq-eqb, ne_eqb}
 use native.Mathlib.Nat.{sub-zero}
-use native.Mathlib.Omega.{arith}
-use borrow.Author.Tests.{eq-eqb, ne_eqb}
 use borrow.Author.Rules.{rules}
 use Rattle.codec.specs.Lists.{and_stop, and_go}
 use Rattle.document.specs.Tables.{every_slot}

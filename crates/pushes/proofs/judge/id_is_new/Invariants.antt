@@ -1,9 +1,7 @@
 -- `pushes::judge::id_is_new` meets its contract. The loop's invariant: the id is new exactly if none from j on has it.
 -- Assumes nothing.
-use mathlib.Core.Path.{◌≡◌}
-use mathlib.Core.Bool.{Bool, not}
-use mathlib.Core.List.{List}
-use Prim.Native.Nat.{ℕ, ◌-◌, ◌≤◌}
+use Rattle.std.proofs.Common.{◌≡◌, ◌-◌, ◌≤◌}
+use Rattle.std.specs.Prelude.{Bool, not, List, ℕ}
 use Rattle.document.specs.Tables.{every_slot}
 use Rattle.document.specs.Messages.{same_head_id}
 use Rattle.document.specs.ReadingMessages.{head_in}

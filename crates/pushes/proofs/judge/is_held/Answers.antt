@@ -1,5 +1,5 @@
 -- `pushes::judge::is_held` meets its contract: the root, or the maker; then the sender. Assumes nothing.
-use borrow.Author.Tests.{eq-eqb, ne_eqb}
+use Rattle.std.proofs.Common.{eq-eqb, ne_eqb}
 use Rattle.pushes.proofs.judge.is_held.Goals as goal
 
 pub returns-then-h-eq0 : goal.returns-then-h-eq0

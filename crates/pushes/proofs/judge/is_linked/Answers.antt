@@ -1,7 +1,6 @@
 -- `pushes::judge::is_linked` meets its contract: the id, the depth, the kind, live. Assumes nothing.
-use mathlib.Core.Path.{refl, ap}
-use mathlib.Core.Bool.{not}
-use borrow.Author.Tests.{eq-eqb, ne_eqb}
+use Rattle.std.specs.Prelude.{refl, not}
+use Rattle.std.proofs.Common.{ap, eq-eqb, ne_eqb}
 use Rattle.codec.specs.Lists.{and_go, or_go}
 use Rattle.pushes.specs.Judging.{linked}
 use Rattle.pushes.proofs.judge.is_linked.Goals as goal

@@ -1,10 +1,7 @@
 -- `pushes::judge::is_push` meets its contract: the header, the first head, those above it, the end of the chain, the
 -- entries. Assumes nothing.
-use mathlib.Core.Path.{◌≡◌, refl, ap, ◌∙◌}
-use mathlib.Core.Bool.{true}
-use Prim.Native.Nat.{◌+◌, ◌*◌, ◌-◌, ◌≤◌}
-use native.Mathlib.Omega.{arith}
-use lib.ListN.{length}
+use Rattle.std.proofs.Common.{◌≡◌, ap, ◌∙◌, ◌+◌, ◌*◌, ◌-◌, ◌≤◌, arith, length, sym}
+use Rattle.std.specs.Prelude.{refl, true}
 use borrow.Author.Rules.{rules}
 use Rattle.codec.specs.Lists.{and_stop, and_go}
 use Rattle.records.specs.declared.head.Head.{Head}
@@ -12,7 +9,6 @@ use Rattle.messages.specs.PushHeaders.{push_at}
 use Rattle.document.specs.ReadingMessages.{head_in}
 use Rattle.pushes.specs.Judging.{is_push, header_fine, ends_at_root}
 use Rattle.pushes.specs.Reading.{order_by, push_tests, sized_by}
-use mathlib.Core.Path.{sym}
 use Rattle.pushes.proofs.judge.is_push.Goals as goal
 
 pub returns-then-not-header_fine : goal.returns-then-not-header_fine

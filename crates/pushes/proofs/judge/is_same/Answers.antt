@@ -1,6 +1,5 @@
 -- `pushes::judge::is_same_law` meets its contract: the child, the name. Assumes nothing.
-use mathlib.Core.Path.{ap, sym, ◌∙◌}
-use borrow.Author.Tests.{eq-eqb, ne_eqb}
+use Rattle.std.proofs.Common.{ap, sym, ◌∙◌, eq-eqb, ne_eqb}
 use Rattle.codec.specs.Lists.{and_stop, and_go}
 use Rattle.names.specs.declared.Name.{Name}
 use Rattle.names.specs.Names.{same_name}

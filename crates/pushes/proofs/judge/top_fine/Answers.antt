@@ -1,9 +1,6 @@
 -- `pushes::judge::top_fine` meets its contract: the count of heads, the addressee, the entries. Assumes nothing.
-use mathlib.Core.Path.{◌≡◌, refl, sym, ◌∙◌}
-use mathlib.Core.Bool.{true}
-use Prim.Native.Nat.{max}
-use lib.Dec.{eqb}
-use borrow.Author.Tests.{eq-eqb, ne_eqb}
+use Rattle.std.proofs.Common.{◌≡◌, sym, ◌∙◌, eq-eqb, ne_eqb}
+use Rattle.std.specs.Prelude.{refl, true, max, eqb}
 use Rattle.codec.specs.Lists.{and_stop, and_go, or_stop, or_go}
 use Rattle.pushes.specs.Judging.{top_fine}
 use Rattle.pushes.proofs.judge.top_fine.Goals as goal

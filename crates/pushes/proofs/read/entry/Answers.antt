@@ -1,7 +1,5 @@
 -- `pushes::read::entry` meets its contract: an entry in its own bytes is the one that stands there. Assumes nothing.
-use mathlib.Core.Path.{ap, ◌∙◌}
-use native.Mathlib.Omega.{arith}
-use lib.ListN.{length}
+use Rattle.std.proofs.Common.{ap, ◌∙◌, arith, length}
 use Rattle.codec.specs.Laws.{length_chunk}
 use Rattle.records.specs.Entries.{entry_of}
 use Rattle.document.specs.Messages.{entry_spot}

@@ -1,7 +1,5 @@
 -- `pushes::read::header` meets its contract: the header in its own bytes is the one that stands there. Assumes nothing.
-use mathlib.Core.Path.{ap, ◌∙◌}
-use native.Mathlib.Omega.{arith}
-use lib.ListN.{length}
+use Rattle.std.proofs.Common.{ap, ◌∙◌, arith, length}
 use Rattle.codec.specs.Laws.{length_chunk}
 use Rattle.messages.specs.PushHeaders.{push_of}
 use Rattle.pushes.specs.Judging.{in_part}

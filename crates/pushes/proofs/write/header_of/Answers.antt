@@ -1,6 +1,5 @@
 -- `pushes::write::header_of` meets its contract: each field is told from the table. Assumes nothing.
-use mathlib.Core.Path.{◌≡◌}
-use native.Mathlib.Omega.{arith}
+use Rattle.std.proofs.Common.{◌≡◌, arith}
 use borrow.Author.Rules.{rules}
 use Rattle.table.specs.Slots.{entries_in}
 use Rattle.pushes.specs.Pushing.{held_long, entries_few, header_told}

@@ -1,8 +1,8 @@
 -- `pushes::write::write` meets its contract: the header, the first head, those above it, the entries, one behind the
 -- other.
 -- Assumes nothing.
-use mathlib.Core.Path.{refl, ◌∙◌}
-use native.Mathlib.Omega.{arith}
+use Rattle.std.specs.Prelude.{refl}
+use Rattle.std.proofs.Common.{◌∙◌, arith}
 use borrow.Author.Rules.{rules}
 use Rattle.codec.specs.Laws.{after}
 use Rattle.pushes.specs.Pushing.{held_long, heads_told, room_told, message_written}

@@ -1,11 +1,8 @@
 -- `pushes::write::write_above` meets its contract. The loop's invariant: what was written, with the heads from d on up
 -- behind it, is what is to be written. Assumes nothing.
-use mathlib.Core.Path.{◌≡◌, refl, ap, sym, ◌∙◌}
-use mathlib.Core.List.{List, [], ◌∷◌}
-use Prim.Native.Nat.{ℕ, ◌+◌, ◌*◌, ◌<◌}
+use Rattle.std.proofs.Common.{◌≡◌, ap, sym, ◌∙◌, ◌+◌, ◌*◌, ◌<◌, arith, length}
+use Rattle.std.specs.Prelude.{refl, List, [], ◌∷◌, ℕ}
 use native.Mathlib.Nat.{sub-zero}
-use native.Mathlib.Omega.{arith}
-use lib.ListN.{length}
 use Rattle.codec.specs.Bytes.{splice}
 use Rattle.records.specs.declared.head.Head.{Head}
 use Rattle.records.specs.Heads.{head_bytes, head_at}

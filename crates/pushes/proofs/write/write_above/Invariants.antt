@@ -1,9 +1,7 @@
 -- `pushes::write::write_above` meets its contract. The loop's invariant: what was written, with the heads from d on up
 -- behind it, is what is to be written. Assumes nothing.
-use mathlib.Core.Path.{◌≡◌}
-use mathlib.Core.List.{List}
-use Prim.Native.Nat.{ℕ, ◌+◌, ◌*◌, ◌-◌, ◌≤◌}
-use lib.ListN.{length}
+use Rattle.std.proofs.Common.{◌≡◌, ◌+◌, ◌*◌, ◌-◌, ◌≤◌, length}
+use Rattle.std.specs.Prelude.{List, ℕ}
 use Rattle.codec.specs.Bytes.{splice}
 use Rattle.records.specs.declared.head.Head.{Head}
 use Rattle.records.specs.Heads.{head_bytes}

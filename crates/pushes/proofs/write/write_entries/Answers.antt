@@ -1,11 +1,8 @@
 -- `pushes::write::write_entries` meets its contract. The loop's invariant: what was written, with the entries of the
 -- slots
 -- from i on behind it, is what is to be written. Assumes nothing.
-use mathlib.Core.Path.{◌≡◌, refl, ap, sym, ◌∙◌}
-use mathlib.Core.List.{List}
-use Prim.Native.Nat.{ℕ, ◌+◌, ◌*◌, ◌≤◌}
-use native.Mathlib.Omega.{arith}
-use lib.ListN.{length, length-append}
+use Rattle.std.proofs.Common.{◌≡◌, ap, sym, ◌∙◌, ◌+◌, ◌*◌, ◌≤◌, arith, length, length-append}
+use Rattle.std.specs.Prelude.{refl, List, ℕ}
 use Rattle.codec.specs.Bytes.{splice}
 use Rattle.records.specs.declared.entry.Entry.{Entry}
 use Rattle.records.specs.Entries.{entry_bytes, length_entry_bytes}

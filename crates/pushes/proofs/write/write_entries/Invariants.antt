@@ -1,9 +1,7 @@
 -- `pushes::write::write_entries` meets its contract. The loop's invariant: what was written, with the entries of the
 -- slots
 -- from i on behind it, is what is to be written. Assumes nothing.
-use mathlib.Core.Path.{◌≡◌}
-use Prim.Native.Nat.{◌+◌, ◌*◌, ◌-◌, ◌≤◌}
-use lib.ListN.{length}
+use Rattle.std.proofs.Common.{◌≡◌, ◌+◌, ◌*◌, ◌-◌, ◌≤◌, length}
 use Rattle.codec.specs.Bytes.{splice}
 use Rattle.records.specs.Entries.{entry_bytes}
 use Rattle.document.specs.Tables.{rows}

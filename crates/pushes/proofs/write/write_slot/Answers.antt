@@ -1,11 +1,8 @@
 -- `pushes::write::write_slot` meets its contract: a slot of another directory adds nothing, one of this adds its
 -- record.
 -- Assumes nothing.
-use mathlib.Core.Path.{◌≡◌, ap, sym, ◌∙◌}
-use mathlib.Core.List.{[], ◌∷◌}
-use native.Mathlib.Omega.{arith}
-use lib.ListN.{length}
-use borrow.Author.Tests.{eq-eqb, ne_eqb}
+use Rattle.std.proofs.Common.{◌≡◌, ap, sym, ◌∙◌, arith, length, eq-eqb, ne_eqb}
+use Rattle.std.specs.Prelude.{[], ◌∷◌}
 use Rattle.codec.specs.Bytes.{splice}
 use Rattle.records.specs.declared.entry.Entry.{Entry}
 use Rattle.records.specs.Entries.{entry_at, entry_bytes}

@@ -1,8 +1,7 @@
 -- `service::acknowledged::acknowledged` meets its contract: a sound table, a well-formed message, and what that
 -- one does. Assumes nothing.
-use mathlib.Core.Path.{ap, sym, ◌∙◌}
-use Prim.Native.Nat.{ℕ}
-use native.Mathlib.Omega.{arith}
+use Rattle.std.proofs.Common.{ap, sym, ◌∙◌, arith}
+use Rattle.std.specs.Prelude.{ℕ}
 use Rattle.messages.specs.Acknowledgements.{ack_of}
 use Rattle.document.specs.Tables.{table_of}
 use Rattle.document.specs.Outcomes.{Outcome, table_after}

@@ -1,9 +1,7 @@
 -- `service::acknowledged::clear` meets its contract: the addressee, then the slot. Assumes nothing.
-use mathlib.Core.Path.{ap, sym, ◌∙◌}
-use Prim.Native.Nat.{ℕ}
-use native.Mathlib.Omega.{arith}
+use Rattle.std.proofs.Common.{ap, sym, ◌∙◌, arith, eq-eqb, ne_eqb}
+use Rattle.std.specs.Prelude.{ℕ}
 use borrow.Author.Rules.{rules}
-use borrow.Author.Tests.{eq-eqb, ne_eqb}
 use Rattle.document.specs.Tables.{table_of}
 use Rattle.document.specs.Reading.{own_at, sound_length}
 use Rattle.table.specs.Slots.{first_replica}

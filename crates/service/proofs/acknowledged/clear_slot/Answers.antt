@@ -1,11 +1,7 @@
 -- `service::acknowledged::clear_slot` meets its contract: the version, the pending bit, and the byte that is
 -- written. Assumes nothing.
-use mathlib.Core.Path.{ap, sym, ◌∙◌}
-use mathlib.Core.List.{[], ◌∷◌}
-use Prim.Native.Nat.{ℕ, ◌+◌, ◌*◌}
-use native.Mathlib.Omega.{arith}
-use lib.Dec.{eqb}
-use borrow.Author.Tests.{eq-eqb, ne_eqb}
+use Rattle.std.proofs.Common.{ap, sym, ◌∙◌, ◌+◌, ◌*◌, arith, eq-eqb, ne_eqb}
+use Rattle.std.specs.Prelude.{[], ◌∷◌, ℕ, eqb}
 use Rattle.codec.specs.Bytes.{splice}
 use Rattle.codec.specs.Lists.{and_stop, and_go, and_both}
 use Rattle.numbers.specs.Nodes.{has, without}

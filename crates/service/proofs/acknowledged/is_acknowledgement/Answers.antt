@@ -1,6 +1,5 @@
 -- `service::acknowledged::is_acknowledgement` meets its contract: test by test. Assumes nothing.
-use mathlib.Core.Path.{ap, sym, ◌∙◌}
-use borrow.Author.Tests.{eq-eqb, ne_eqb}
+use Rattle.std.proofs.Common.{ap, sym, ◌∙◌, eq-eqb, ne_eqb}
 use Rattle.codec.specs.Lists.{and_stop, and_go}
 use Rattle.messages.specs.Acknowledgements.{ack_of, ack_in_range}
 use Rattle.service.specs.Acknowledging.{ack_whole}

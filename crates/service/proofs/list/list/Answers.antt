@@ -1,10 +1,7 @@
 -- `service::list::list` meets its contract: not sound; not held; what is held. Assumes nothing.
-use mathlib.Core.Path.{◌≡◌, ap, sym, ◌∙◌}
-use mathlib.Core.Bool.{true}
+use Rattle.std.proofs.Common.{◌≡◌, ap, sym, ◌∙◌, ◌<◌, arith, length}
+use Rattle.std.specs.Prelude.{true}
 use mathlib.Core.Option.{some}
-use Prim.Native.Nat.{◌<◌}
-use native.Mathlib.Omega.{arith}
-use lib.ListN.{length}
 use Rattle.records.specs.declared.head.Head.{Head}
 use Rattle.records.specs.Heads.{head_at}
 use Rattle.document.specs.Tables.{head_of, replica_slot, table_of}

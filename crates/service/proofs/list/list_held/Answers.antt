@@ -1,11 +1,7 @@
 -- `service::list::list_held` meets its contract: a dead file, a file, a buffer too small, a dead directory, done.
 -- Assumes nothing.
-use mathlib.Core.Path.{◌≡◌, ap, sym, ◌∙◌}
-use mathlib.Core.List.{List}
-use Prim.Native.Nat.{ℕ}
-use native.Mathlib.Omega.{arith}
-use lib.ListN.{length}
-use borrow.Author.Tests.{eq-eqb, ne_eqb}
+use Rattle.std.proofs.Common.{◌≡◌, ap, sym, ◌∙◌, arith, length, eq-eqb, ne_eqb}
+use Rattle.std.specs.Prelude.{List, ℕ}
 use Rattle.codec.specs.Bytes.{splice}
 use Rattle.records.specs.declared.entry.Entry.{Entry}
 use Rattle.records.specs.Entries.{entry_bytes}

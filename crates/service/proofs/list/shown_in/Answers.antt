@@ -1,13 +1,11 @@
 -- `service::list::shown_in` meets its contract. The loop's invariant: of the first i slots n are shown.
 -- Assumes nothing.
-use mathlib.Core.Path.{◌≡◌, ap, sym, ◌∙◌}
-use Prim.Native.Nat.{ℕ}
-use native.Mathlib.Omega.{arith}
+use Rattle.std.proofs.Common.{◌≡◌, ap, sym, ◌∙◌, arith, length}
+use Rattle.std.specs.Prelude.{ℕ}
 use borrow.Author.Rules.{rules}
-use lib.ListN.{length}
 use Rattle.service.specs.Listing.{shown_in, shown_none, length_more, not_shown, is_shown_law}
-use Rattle.service.proofs.list.shown_in.Goals as goal
 use Rattle.service.proofs.list.shown_in.Goals.{then-shows, else-shows}
+use Rattle.service.proofs.list.shown_in.Goals as goal
 
 pub loop-i-init : goal.loop-i-init
 loop-i-init c =

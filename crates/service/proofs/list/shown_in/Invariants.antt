@@ -1,10 +1,7 @@
 -- `service::list::shown_in` meets its contract. The loop's invariant: of the first i slots n are shown.
 -- Assumes nothing.
-use mathlib.Core.Path.{◌≡◌}
-use Prim.Native.Nat.{◌-◌, ◌≤◌}
-use lib.ListN.{length}
+use Rattle.std.proofs.Common.{◌≡◌, ◌-◌, ◌≤◌, length}
 use Rattle.service.specs.Listing.{shown_in}
-use Prim.Native.Nat.{◌-◌, ◌≤◌}
 use Rattle.service.proofs.list.shown_in.Given as goal
 
 abbrev pub invariant-loop-i : goal.invariant-loop-i

@@ -1,11 +1,8 @@
 -- `service::list::write_shown` meets its contract. The loop's invariant: what i slots show is written, and n is how
 -- many they show. Assumes nothing.
-use mathlib.Core.Path.{◌≡◌, refl, ap, sym, ◌∙◌}
-use Prim.Native.Nat.{ℕ, ◌+◌, ◌*◌}
-use native.Mathlib.Omega.{arith}
+use Rattle.std.proofs.Common.{◌≡◌, ap, sym, ◌∙◌, ◌+◌, ◌*◌, arith, length}
+use Rattle.std.specs.Prelude.{refl, ℕ, List}
 use borrow.Author.Rules.{rules}
-use mathlib.Core.List.{List}
-use lib.ListN.{length}
 use Rattle.codec.specs.Bytes.{splice}
 use Rattle.records.specs.Entries.{entry_bytes}
 use Rattle.document.specs.Tables.{rows}

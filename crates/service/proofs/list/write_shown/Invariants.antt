@@ -1,8 +1,6 @@
 -- `service::list::write_shown` meets its contract. The loop's invariant: what i slots show is written, and n is how
 -- many they show. Assumes nothing.
-use mathlib.Core.Path.{◌≡◌}
-use Prim.Native.Nat.{◌-◌, ◌≤◌}
-use lib.ListN.{length}
+use Rattle.std.proofs.Common.{◌≡◌, ◌-◌, ◌≤◌, length}
 use Rattle.codec.specs.Bytes.{splice}
 use Rattle.records.specs.Entries.{entry_bytes}
 use Rattle.document.specs.Tables.{rows}

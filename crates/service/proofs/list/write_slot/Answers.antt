@@ -1,9 +1,6 @@
 -- `service::list::write_slot` meets its contract: a slot that is not shown adds nothing, one that is adds its record.
 -- Assumes nothing.
-use mathlib.Core.Path.{ap, sym, ◌∙◌}
-use Prim.Native.Nat.{◌*◌}
-use native.Mathlib.Omega.{arith}
-use lib.ListN.{length}
+use Rattle.std.proofs.Common.{ap, sym, ◌∙◌, ◌*◌, arith, length}
 use Rattle.codec.specs.Bytes.{splice}
 use Rattle.codec.specs.Laws.{splice_none}
 use Rattle.records.specs.declared.entry.Entry.{Entry}

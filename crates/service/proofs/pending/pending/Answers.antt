@@ -1,6 +1,6 @@
 -- `service::pending::pending` meets its contract: not sound, or the sum over the used slots. Assumes nothing.
-use mathlib.Core.Path.{◌≡◌, ap, sym, ◌∙◌}
-use Prim.Native.Nat.{ℕ}
+use Rattle.std.proofs.Common.{◌≡◌, ap, sym, ◌∙◌}
+use Rattle.std.specs.Prelude.{ℕ}
 use borrow.Author.Rules.{rules}
 use Rattle.document.specs.Tables.{table_of, slots_from, replica_in, replicas_used}
 use Rattle.document.specs.Calls.{pending_sum}

@@ -1,7 +1,6 @@
 -- `service::pending::pending_bits` meets its contract. The loop's invariant: n, and those from i on; n is at most 8 for
 -- each slot passed. Assumes nothing.
-use mathlib.Core.Path.{◌≡◌, ap, sym, ◌∙◌}
-use native.Mathlib.Omega.{arith}
+use Rattle.std.proofs.Common.{◌≡◌, ap, sym, ◌∙◌, arith}
 use native.Mathlib.Nat.{sub-zero}
 use borrow.Author.Rules.{rules}
 use Rattle.numbers.specs.Nodes.{size}

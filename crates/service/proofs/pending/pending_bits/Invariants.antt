@@ -1,7 +1,6 @@
 -- `service::pending::pending_bits` meets its contract. The loop's invariant: n, and those from i on; n is at most 8 for
 -- each slot passed. Assumes nothing.
-use mathlib.Core.Path.{◌≡◌}
-use Prim.Native.Nat.{◌+◌, ◌*◌, ◌-◌, ◌≤◌}
+use Rattle.std.proofs.Common.{◌≡◌, ◌+◌, ◌*◌, ◌-◌, ◌≤◌}
 use Rattle.document.specs.Tables.{slots_from, replica_in}
 use Rattle.document.specs.Calls.{pending_sum}
 use Rattle.service.proofs.pending.pending_bits.Given as goal

@@ -1,8 +1,6 @@
 -- `service::push::push_held` meets its contract: a buffer too small, a node that is not pending, done. Assumes nothing.
-use mathlib.Core.Path.{◌≡◌, ap, ◌∙◌}
-use Prim.Native.Nat.{ℕ}
-use native.Mathlib.Omega.{arith}
-use lib.ListN.{length}
+use Rattle.std.proofs.Common.{◌≡◌, ap, ◌∙◌, arith, length, sym}
+use Rattle.std.specs.Prelude.{ℕ}
 use Rattle.codec.specs.Bytes.{splice}
 use Rattle.document.specs.Tables.{table_of}
 use Rattle.document.specs.Messages.{message_bytes}
@@ -10,7 +8,6 @@ use Rattle.pushes.specs.Pushing.{size_told, node_told, written}
 use Rattle.pushes.specs.Writing.{push_of_held}
 use Rattle.answers.specs.Outputs.{refused_out, done_out}
 use Rattle.service.specs.Pushing.{push_small, push_told, push_done}
-use mathlib.Core.Path.{sym}
 use Rattle.service.proofs.push.push_held.Goals as goal
 
 pub header_of-header-requires : goal.header_of-header-requires

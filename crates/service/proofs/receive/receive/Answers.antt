@@ -1,8 +1,6 @@
 -- `service::receive::receive` meets its contract: 1, 2, 3, 4, and then the push is taken. Assumes nothing.
-use native.Mathlib.Omega.{arith}
-use mathlib.Core.Path.{ap, sym, ◌∙◌}
-use Prim.Native.Nat.{ℕ}
-use lib.ListN.{length}
+use Rattle.std.proofs.Common.{arith, ap, sym, ◌∙◌, length}
+use Rattle.std.specs.Prelude.{ℕ}
 use Rattle.document.specs.Reading.{sound_length}
 use Rattle.table.specs.Ranges.{nodes_at}
 use Rattle.pushes.specs.Judging.{is_push}
@@ -15,10 +13,15 @@ pub returns-then-not-is_sound : goal.returns-then-not-is_sound
 returns-then-not-is_sound c = refused_parts _ _ (not_sound c.args.table.now _ (sym c.is_sound.ensures ∙ c.if-not-is_sound.true))
 
 pub returns-then-time-gt1099511627775 : goal.returns-then-time-gt1099511627775
-returns-then-time-gt1099511627775 c = refused_parts _ _ (call_2 c.args.table.now c.args.time c.args.message.now (length c.args.out.now) (sym c.is_sound.ensures ∙ c.if-not-is_sound.false) c.if-time-gt1099511627775.true)
+returns-then-time-gt1099511627775 c =
+    let a = c.args in
+    refused_parts _ _ (call_2 a.table.now a.time a.message.now (length a.out.now) (sym c.is_sound.ensures ∙ c.if-not-is_sound.false) c.if-time-gt1099511627775.true)
 
 pub returns-then-out-lt-SIZE : goal.returns-then-out-lt-SIZE
-returns-then-out-lt-SIZE c = refused_parts _ _ (call_3 c.args.table.now c.args.time c.args.message.now (length c.args.out.now) (sym c.is_sound.ensures ∙ c.if-not-is_sound.false) c.if-time-gt1099511627775.false c.if-out-lt-SIZE.true)
+returns-then-out-lt-SIZE c =
+    let a = c.args in
+    refused_parts _ _ (call_3 a.table.now a.time a.message.now (length a.out.now)
+    (sym c.is_sound.ensures ∙ c.if-not-is_sound.false) c.if-time-gt1099511627775.false c.if-out-lt-SIZE.true)
 
 pub get_u8-requires : goal.get_u8-requires
 get_u8-requires c = omega (arith, sound_length c.args.table.now (sym c.is_sound.ensures ∙ c.if-not-is_sound.false))
@@ -27,10 +30,24 @@ pub is_push-requires : goal.is_push-requires
 is_push-requires c = omega (arith, c.get_u8.ensures, nodes_at c.args.table.now, nodes_few c.args.table.now (sym c.is_sound.ensures ∙ c.if-not-is_sound.false))
 
 pub returns-then-not-is_push : goal.returns-then-not-is_push
-returns-then-not-is_push c = refused_parts _ _ (call_4 c.args.table.now c.args.time c.args.message.now (length c.args.out.now) (sym c.is_sound.ensures ∙ c.if-not-is_sound.false) c.if-time-gt1099511627775.false c.if-out-lt-SIZE.false (ap (λ (n : ℕ). is_push n c.args.message.now) (sym (c.get_u8.ensures ∙ nodes_at c.args.table.now)) ∙ (sym c.is_push.ensures ∙ c.if-not-is_push.true)))
+returns-then-not-is_push c =
+    let a = c.args in
+    refused_parts _ _ (call_4 a.table.now a.time a.message.now (length a.out.now)
+    (sym c.is_sound.ensures ∙ c.if-not-is_sound.false) c.if-time-gt1099511627775.false c.if-out-lt-SIZE.false
+    (ap (λ (n : ℕ). is_push n a.message.now) (sym (c.get_u8.ensures ∙ nodes_at a.table.now)) ∙ (sym c.is_push.ensures ∙ c.if-not-is_push.true)))
 
 pub take-requires : goal.take-requires
-take-requires c = (receives c.args.table.now c.args.time c.args.message.now (length c.args.out.now) (sym c.is_sound.ensures ∙ c.if-not-is_sound.false) c.if-time-gt1099511627775.false c.if-out-lt-SIZE.false (ap (λ (n : ℕ). is_push n c.args.message.now) (sym (c.get_u8.ensures ∙ nodes_at c.args.table.now)) ∙ (sym c.is_push.ensures ∙ c.if-not-is_push.false)))
+take-requires c =
+    let a = c.args in
+    (receives a.table.now a.time a.message.now (length a.out.now)
+    (sym c.is_sound.ensures ∙ c.if-not-is_sound.false) c.if-time-gt1099511627775.false c.if-out-lt-SIZE.false
+    (ap (λ (n : ℕ). is_push n a.message.now) (sym (c.get_u8.ensures ∙ nodes_at a.table.now)) ∙ (sym c.is_push.ensures ∙ c.if-not-is_push.false)))
 
 pub returns : goal.returns
-returns c = received_parts _ _ (call_takes c.args.table.now c.args.time c.args.message.now (length c.args.out.now) (sym c.is_sound.ensures ∙ c.if-not-is_sound.false) (receives c.args.table.now c.args.time c.args.message.now (length c.args.out.now) (sym c.is_sound.ensures ∙ c.if-not-is_sound.false) c.if-time-gt1099511627775.false c.if-out-lt-SIZE.false (ap (λ (n : ℕ). is_push n c.args.message.now) (sym (c.get_u8.ensures ∙ nodes_at c.args.table.now)) ∙ (sym c.is_push.ensures ∙ c.if-not-is_push.false)))) c.take.ensures
+returns c =
+    let a = c.args in
+    received_parts _ _ (call_takes a.table.now a.time a.message.now (length a.out.now) (sym c.is_sound.ensures ∙ c.if-not-is_sound.false)
+    (receives a.table.now a.time a.message.now (length a.out.now)
+    (sym c.is_sound.ensures ∙ c.if-not-is_sound.false) c.if-time-gt1099511627775.false c.if-out-lt-SIZE.false
+    (ap (λ (n : ℕ). is_push n a.message.now) (sym (c.get_u8.ensures ∙ nodes_at a.table.now)) ∙
+    (sym c.is_push.ensures ∙ c.if-not-is_push.false)))) c.take.ensures

@@ -1,10 +1,7 @@
 -- `service::start::erase` meets its contract. The loop's invariant: zeros before i, and from i on what stood there.
 -- Assumes nothing.
-use mathlib.Core.Path.{refl, ap, ◌∙◌}
-use mathlib.Core.List.{List}
-use Prim.Native.Nat.{ℕ, ◌<◌}
-use native.Mathlib.Omega.{arith}
-use lib.ListN.{length, set, length-set}
+use Rattle.std.specs.Prelude.{refl, List, ℕ, set}
+use Rattle.std.proofs.Common.{ap, ◌∙◌, ◌<◌, arith, length, length-set}
 use borrow.Author.Rules.{rules}
 use Rattle.service.specs.Starting.{zeros_step, zeros_end}
 use Rattle.service.proofs.start.erase.Goals as goal

@@ -1,9 +1,7 @@
 -- `service::start::erase` meets its contract. The loop's invariant: zeros before i, and from i on what stood there.
 -- Assumes nothing.
-use mathlib.Core.Path.{◌≡◌}
-use mathlib.Core.List.{◌++◌}
-use Prim.Native.Nat.{◌-◌, ◌≤◌}
-use lib.ListN.{length, drop}
+use Rattle.std.proofs.Common.{◌≡◌, ◌-◌, ◌≤◌, length}
+use Rattle.std.specs.Prelude.{◌++◌, drop}
 use Rattle.codec.specs.Bytes.{zeros}
 use Rattle.service.proofs.start.erase.Given as goal
 

@@ -1,6 +1,6 @@
 -- `service::start::refresh` meets its contract: the header and the root's slot, written over zeros, are the fresh
 -- table's bytes. Assumes nothing.
-use mathlib.Core.Path.{◌∙◌}
+use Rattle.std.proofs.Common.{◌∙◌}
 use Rattle.codec.specs.Laws.{after}
 use Rattle.service.specs.Starting.{fresh_bytes}
 use Rattle.service.proofs.start.refresh.Goals as goal

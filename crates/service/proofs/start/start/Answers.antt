@@ -1,13 +1,10 @@
 -- `service::start::start` meets its contract: the length, the numbers, and the fresh table's bytes.
 --  Assumes nothing.
-use mathlib.Core.Path.{sym}
-use native.Mathlib.Omega.{arith}
-use borrow.Author.Tests.{eq-eqb, ne_eqb}
+use Rattle.std.proofs.Common.{sym, arith, eq-eqb, ne_eqb, ◌∙◌}
 use Rattle.codec.specs.Lists.{and_stop, and_go, and_both}
 use Rattle.numbers.specs.Laws.{size_most, node_most}
 use Rattle.answers.specs.Answers.{refuses, does}
 use Rattle.service.specs.Starting.{start_1, start_2, start_done}
-use mathlib.Core.Path.{◌∙◌}
 use Rattle.service.proofs.start.start.Goals as goal
 
 pub returns-then-table-ne13344 : goal.returns-then-table-ne13344

@@ -1,7 +1,6 @@
 -- `service::tree::create` meets its contract. Assumes nothing.
-use mathlib.Core.Path.{sym}
+use Rattle.std.proofs.Common.{sym, ◌∙◌}
 use Rattle.answers.specs.Answers.{not_sound, is_sound, refuses, instead}
-use mathlib.Core.Path.{◌∙◌}
 use Rattle.service.proofs.tree.create.Goals as goal
 
 pub returns-then-not-is_sound : goal.returns-then-not-is_sound

@@ -1,5 +1,5 @@
 -- `steps::join::is_room` meets its contract. Assumes nothing.
-use native.Mathlib.Omega.{arith}
+use Rattle.std.proofs.Common.{arith}
 use Rattle.document.specs.Reading.{few_entries}
 use Rattle.steps.specs.Joining.{no_room, room_test}
 use Rattle.steps.proofs.join.is_room.Goals as goal

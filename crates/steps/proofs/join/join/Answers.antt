@@ -1,6 +1,5 @@
 -- `steps::join::join` meets its contract. Assumes nothing.
-use native.Mathlib.Omega.{arith}
-use mathlib.Core.Path.{ap, sym, ◌∙◌}
+use Rattle.std.proofs.Common.{arith, ap, sym, ◌∙◌}
 use Rattle.table.specs.declared.find.Found.{Found}
 use Rattle.document.specs.Tables.{entry_in}
 use Rattle.table.specs.Slots.{found_slot}

@@ -1,7 +1,6 @@
 -- `steps::join::set` meets its contract: added if there is room, or not added. Assumes nothing.
+use Rattle.std.proofs.Common.{arith, sym, ◌∙◌}
 use borrow.Author.Rules.{rules}
-use native.Mathlib.Omega.{arith}
-use mathlib.Core.Path.{sym, ◌∙◌}
 use Rattle.slots.specs.Listings.{ListedFit}
 use Rattle.steps.specs.Standing.{moved, never}
 use Rattle.steps.specs.Joining.{joins_there, joins_new, room_for}
@@ -29,8 +28,11 @@ is_room-requires c = (omega (arith, c.requires.size), c.entries_used-k.ensures.0
 
 pub returns-then-not-is_room : goal.returns-then-not-is_room
 returns-then-not-is_room c =
-    let f : ListedFit c.args.x = record { entry = record { child = search rules; stamp = search rules; bytes = search rules }; directory = search rules } in
-    (sym (sym c.is_room.ensures ∙ c.if-not-is_room.true) ∙ room_for c.requires (λ n. (c.slice_known-1.given n).fits) c.args.x f (sym c.in-Added.is ∙ c.join-outcome.ensures.0), λ e. never e)
+    let f : ListedFit c.args.x = record { entry = record { child = search rules; stamp = search rules; bytes = search rules }; directory = search rules } in (
+      sym (sym c.is_room.ensures ∙ c.if-not-is_room.true) ∙ room_for c.requires (λ n. (c.slice_known-1.given n).fits) c.args.x f
+          (sym c.in-Added.is ∙ c.join-outcome.ensures.0),
+      λ e. never e,
+    )
 
 pub overflow_mul-k : goal.overflow_mul-k
 overflow_mul-k c =

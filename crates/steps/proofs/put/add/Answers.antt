@@ -1,6 +1,6 @@
 -- `steps::put::add` meets its contract. Assumes nothing.
+use Rattle.std.proofs.Common.{arith}
 use borrow.Author.Rules.{rules}
-use native.Mathlib.Omega.{arith}
 use Rattle.records.specs.Heads.{HeadFit}
 use Rattle.document.specs.Reading.{few_replicas}
 use Rattle.steps.specs.Standing.{moved, never}

@@ -1,11 +1,11 @@
 -- `steps::settle::are_entries_same` meets its contract. The loop's invariant: all are exactly if those from i on are.
 -- Assumes nothing.
-use native.Mathlib.Omega.{arith}
-use mathlib.Core.Path.{refl, sym, ◌∙◌}
+use Rattle.std.proofs.Common.{arith, sym, ◌∙◌}
+use Rattle.std.specs.Prelude.{refl}
 use native.Mathlib.Nat.{sub-zero}
+use borrow.Author.Rules.{rules}
 use Rattle.codec.specs.Lists.{and_stop, and_go}
 use Rattle.table.specs.Slots.{slots_step, slots_none}
-use borrow.Author.Rules.{rules}
 use Rattle.steps.proofs.settle.are_entries_same.Goals as goal
 
 pub loop-i-init : goal.loop-i-init

@@ -1,7 +1,6 @@
 -- `steps::settle::are_entries_same` meets its contract. The loop's invariant: all are exactly if those from i on are.
 -- Assumes nothing.
-use mathlib.Core.Path.{◌≡◌}
-use Prim.Native.Nat.{◌-◌, ◌≤◌}
+use Rattle.std.proofs.Common.{◌≡◌, ◌-◌, ◌≤◌}
 use Rattle.document.specs.Tables.{every_slot}
 use Rattle.steps.specs.Settling.{is_slot_same}
 use Rattle.steps.proofs.settle.are_entries_same.Given as goal

@@ -1,9 +1,7 @@
 -- `steps::settle::is_same_law` meets its contract: a new replica, another head, or the entries. Assumes nothing.
-use native.Mathlib.Omega.{arith}
-use mathlib.Core.Path.{◌∙◌}
+use Rattle.std.proofs.Common.{arith, ◌∙◌, sym}
 use Rattle.document.specs.Reading.{few_replicas, few_entries}
 use Rattle.steps.specs.Settling.{same_parts, is_new, is_renewed, is_kept}
-use mathlib.Core.Path.{sym}
 use Rattle.steps.proofs.settle.is_same.Goals as goal
 
 pub returns-then-m-i : goal.returns-then-m-i
@@ -24,7 +22,8 @@ part-requires-2 c = omega (arith, c.requires.slot, c.requires.settles.after.size
 pub returns-then-not-same_bytes : goal.returns-then-not-same_bytes
 returns-then-not-same_bytes c =
     let q = same_parts c.same_bytes.ensures c.part.ensures c.part-2.ensures in
-    is_renewed (λ i. omega (arith, c.shared_slice_known-1.given i)) (λ i. omega (arith, c.shared_slice_known-2-1.given i)) c.requires c.if-m-i.false (sym q ∙ c.if-not-same_bytes.true)
+    is_renewed (λ i. omega (arith, c.shared_slice_known-1.given i)) (λ i. omega (arith, c.shared_slice_known-2-1.given i)) c.requires c.if-m-i.false
+    (sym q ∙ c.if-not-same_bytes.true)
 
 pub overflow_add-o-2 : goal.overflow_add-o-2
 overflow_add-o-2 c = omega (arith, c.requires.slot, few_replicas c.args.t.now)
@@ -42,4 +41,5 @@ are_entries_same-requires c = (
 pub returns : goal.returns
 returns c =
     let q = same_parts c.same_bytes.ensures c.part.ensures c.part-2.ensures in
-    c.are_entries_same.ensures ∙ is_kept (λ i. omega (arith, c.shared_slice_known-1.given i)) (λ i. omega (arith, c.shared_slice_known-2-1.given i)) c.requires c.if-m-i.false (sym q ∙ c.if-not-same_bytes.false) _ c.get_u32.ensures
+    c.are_entries_same.ensures ∙ is_kept (λ i. omega (arith, c.shared_slice_known-1.given i))
+    (λ i. omega (arith, c.shared_slice_known-2-1.given i)) c.requires c.if-m-i.false (sym q ∙ c.if-not-same_bytes.false) _ c.get_u32.ensures

@@ -1,8 +1,6 @@
 -- `steps::settle::is_slot_same` meets its contract. Assumes nothing.
-use mathlib.Core.Path.{ap, sym, ◌∙◌}
-use Prim.Native.Nat.{ℕ}
-use lib.Dec.{eqb}
-use borrow.Author.Tests.{eq-eqb, ne_eqb, lt-ltb, le-ltb}
+use Rattle.std.proofs.Common.{ap, sym, ◌∙◌, eq-eqb, ne_eqb, lt-ltb, le-ltb}
+use Rattle.std.specs.Prelude.{ℕ, eqb}
 use Rattle.steps.specs.Settling.{same_parts}
 use Rattle.steps.proofs.settle.is_slot_same.Goals as goal
 

@@ -1,10 +1,8 @@
 -- `steps::settle::settle` meets its contract. The loop's invariant: the first i replicas are settled. Assumes nothing.
-use native.Mathlib.Omega.{arith}
-use mathlib.Core.Path.{refl, sym}
+use Rattle.std.proofs.Common.{arith, sym, ◌∙◌}
+use borrow.Author.Rules.{rules}
 use Rattle.steps.specs.Standing.{never}
 use Rattle.steps.specs.Settling.{numbered_none, turn_first, turn_compares, turn_past, turn_done, turn_end}
-use borrow.Author.Rules.{rules}
-use mathlib.Core.Path.{◌∙◌}
 use Rattle.steps.proofs.settle.settle.Goals as goal
 
 pub replicas_used-m-requires : goal.replicas_used-m-requires
@@ -37,7 +35,7 @@ returns-then-not-settle_slot c = (
 pub loop-i-preserved : goal.loop-i-preserved
 loop-i-preserved c =
     let q = turn_done c.requires c.loop-i.t c.loop-i.i c.loop-i.invariant.1 (omega (arith, c.loop-i-test.true, c.replicas_used-all.ensures.0))
-    (sym (sym c.settle_slot.ensures.0 ∙ c.if-not-settle_slot.false)) _ (c.settle_slot.ensures.1 (sym refl ∙ c.if-not-settle_slot.false)) c.loop-i.invariant.2 in
+    (sym (sym c.settle_slot.ensures.0 ∙ c.if-not-settle_slot.false)) _ (c.settle_slot.ensures.1 c.if-not-settle_slot.false) c.loop-i.invariant.2 in
     (omega (arith, c.loop-i-test.true), q.0, q.1)
 
 pub returns : goal.returns

@@ -1,7 +1,6 @@
 -- `steps::settle::settle` meets its contract. The loop's invariant: the first i replicas are settled. Assumes nothing.
-use mathlib.Core.Path.{◌≡◌}
-use mathlib.Core.Bool.{true}
-use Prim.Native.Nat.{◌-◌, ◌≤◌}
+use Rattle.std.proofs.Common.{◌≡◌, ◌-◌, ◌≤◌}
+use Rattle.std.specs.Prelude.{true}
 use Rattle.document.specs.Tables.{table_of, with_replicas}
 use Rattle.steps.specs.Standing.{Is}
 use Rattle.steps.specs.Settling.{settled_to, numbered_to}

@@ -1,7 +1,5 @@
 -- `steps::settle::settle_slot` meets its contract: nothing changed, the last version, or the next. Assumes nothing.
-use native.Mathlib.Omega.{arith}
-use mathlib.Core.Path.{◌≡◌, ap, sym, ◌∙◌}
-use Prim.Native.Nat.{◌+◌, ◌*◌}
+use Rattle.std.proofs.Common.{arith, ◌≡◌, ap, sym, ◌∙◌, ◌+◌, ◌*◌}
 use Rattle.codec.specs.Bytes.{splice}
 use Rattle.slots.specs.declared.replica.Replica.{Replica}
 use Rattle.slots.specs.Replicas.{replica_bytes}

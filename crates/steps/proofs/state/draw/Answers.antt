@@ -1,6 +1,5 @@
 -- `steps::state::draw` meets its contract: the clock, the stamp, and the header that is written. Assumes nothing.
-use native.Mathlib.Omega.{arith}
-use mathlib.Core.Path.{◌≡◌, ap, ◌∙◌}
+use Rattle.std.proofs.Common.{arith, ◌≡◌, ap, ◌∙◌}
 use Rattle.slots.specs.declared.table_header.TableHeader.{TableHeader}
 use Rattle.document.specs.Tables.{table_of, header_of}
 use Rattle.steps.specs.Standing.{moved}

@@ -1,5 +1,5 @@
 -- `steps::state::is_same_place` meets its contract. Assumes nothing.
-use borrow.Author.Tests.{eq-eqb, ne_eqb}
+use Rattle.std.proofs.Common.{eq-eqb, ne_eqb}
 use Rattle.codec.specs.Lists.{and_go, and_stop}
 use Rattle.steps.proofs.state.is_same_place.Goals as goal
 

@@ -1,8 +1,7 @@
 -- `steps::state::make` meets its contract. Assumes nothing.
-use mathlib.Core.Path.{refl}
+use Rattle.std.proofs.Common.{sym, ◌∙◌}
 use Rattle.steps.specs.Standing.{stands}
 use Rattle.steps.specs.States.{put_full, then_make}
-use mathlib.Core.Path.{sym, ◌∙◌}
 use Rattle.steps.proofs.state.make.Goals as goal
 
 pub put-requires : goal.put-requires
@@ -12,7 +11,8 @@ pub returns-then-not-put : goal.returns-then-not-put
 returns-then-not-put c = put_full c.args.h c.requires.0 (sym c.put.ensures.0 ∙ c.if-not-put.true) _
 
 pub set-requires : goal.set-requires
-set-requires c = stands (c.put.ensures.1 (sym refl ∙ c.if-not-put.false))
+set-requires c = stands (c.put.ensures.1 c.if-not-put.false)
 
 pub returns : goal.returns
-returns c = then_make c.args.h c.requires.0 (sym c.put.ensures.0 ∙ c.if-not-put.false) _ (c.put.ensures.1 (sym refl ∙ c.if-not-put.false)) c.requires.1 _ c.place_entry.ensures _ c.set.ensures.0 _ c.set.ensures.1
+returns c = then_make c.args.h c.requires.0 (sym c.put.ensures.0 ∙ c.if-not-put.false) _
+    (c.put.ensures.1 c.if-not-put.false) c.requires.1 _ c.place_entry.ensures _ c.set.ensures.0 _ c.set.ensures.1

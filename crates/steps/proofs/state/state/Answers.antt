@@ -1,6 +1,5 @@
 -- `steps::state::state` meets its contract: a new replica, or one that was another. Assumes nothing.
-use native.Mathlib.Omega.{arith}
-use mathlib.Core.Path.{refl, ap, sym, ◌∙◌}
+use Rattle.std.proofs.Common.{arith, ap, sym, ◌∙◌}
 use mathlib.Core.Option.{some}
 use Rattle.table.specs.Rules.{found_head, not_found}
 use Rattle.steps.specs.States.{put_full, then_places, then_set}
@@ -40,10 +39,10 @@ pub set_places-requires : goal.set_places-requires
 set_places-requires c =
     let f = found_head c.args.t.now _ c.args.h.id c.in-At.i c.replicas_used.ensures.0 (sym c.replica-found.ensures ∙ c.in-At.is) in
     let n = f.1 ∙ ap some (sym c.read-old.ensures) in
-    then_places c.args.h c.requires (sym c.put.ensures.0 ∙ c.if-not-put.false) _ (c.put.ensures.1 (sym refl ∙ c.if-not-put.false)) _ n
+    then_places c.args.h c.requires (sym c.put.ensures.0 ∙ c.if-not-put.false) _ (c.put.ensures.1 c.if-not-put.false) _ n
 
 pub returns : goal.returns
 returns c =
     let f = found_head c.args.t.now _ c.args.h.id c.in-At.i c.replicas_used.ensures.0 (sym c.replica-found.ensures ∙ c.in-At.is) in
     let n = f.1 ∙ ap some (sym c.read-old.ensures) in
-    then_set c.args.h c.requires (sym c.put.ensures.0 ∙ c.if-not-put.false) _ (c.put.ensures.1 (sym refl ∙ c.if-not-put.false)) _ n _ _ c.set_places.ensures
+    then_set c.args.h c.requires (sym c.put.ensures.0 ∙ c.if-not-put.false) _ (c.put.ensures.1 c.if-not-put.false) _ n _ _ c.set_places.ensures

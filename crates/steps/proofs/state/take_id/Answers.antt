@@ -1,6 +1,5 @@
 -- `steps::state::take_id` meets its contract: the id, and the header that is written. Assumes nothing.
-use native.Mathlib.Omega.{arith}
-use mathlib.Core.Path.{◌≡◌, ap, ◌∙◌}
+use Rattle.std.proofs.Common.{arith, ◌≡◌, ap, ◌∙◌}
 use Rattle.slots.specs.declared.table_header.TableHeader.{TableHeader}
 use Rattle.document.specs.Tables.{table_of, header_of}
 use Rattle.numbers.specs.Ids.{id_of}

@@ -1,8 +1,7 @@
 -- `table::counts::of_entries` meets its contract. The loop's invariant: the counts are those of the first i entries.
 -- Assumes nothing.
-use mathlib.Core.Path.{subst}
-use Prim.Native.Nat.{ℕ}
-use native.Mathlib.Omega.{arith}
+use Rattle.std.proofs.Common.{subst, arith}
+use Rattle.std.specs.Prelude.{ℕ}
 use borrow.Author.Rules.{rules}
 use Rattle.table.specs.Counts.{Counted, counted_none}
 use Rattle.table.proofs.counts.of_entries.Goals as goal

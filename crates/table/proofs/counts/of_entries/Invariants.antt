@@ -1,6 +1,6 @@
 -- `table::counts::of_entries` meets its contract. The loop's invariant: the counts are those of the first i entries.
 -- Assumes nothing.
-use Prim.Native.Nat.{◌-◌, ◌≤◌}
+use Rattle.std.proofs.Common.{◌-◌, ◌≤◌}
 use Rattle.table.specs.Counts.{Counted}
 use Rattle.table.proofs.counts.of_entries.Given as goal
 

@@ -1,7 +1,6 @@
 -- `table::counts::raise` meets its contract: the directory is not held; it is, and its count is raised, which is at most e.
 -- Assumes nothing.
-use mathlib.Core.Path.{ap, sym, ◌∙◌}
-use native.Mathlib.Omega.{arith}
+use Rattle.std.proofs.Common.{ap, sym, ◌∙◌, arith}
 use Rattle.table.specs.Rules.{held_at}
 use Rattle.table.specs.Slots.{first_replica, directory_at}
 use Rattle.table.specs.Counts.{counted_other, counted_at, counted_most}

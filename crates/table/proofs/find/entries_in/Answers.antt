@@ -1,14 +1,11 @@
 -- `table::find::entries_in` meets its contract. The loop's invariant: n, and those from i on. Assumes nothing.
-use mathlib.Core.Path.{◌≡◌, sym, ◌∙◌}
-use native.Mathlib.Omega.{arith}
+use Rattle.std.proofs.Common.{◌≡◌, sym, ◌∙◌, arith, eq-eqb, ne_eqb}
+use Rattle.std.specs.Prelude.{true, false}
 use native.Mathlib.Nat.{sub-zero}
 use borrow.Author.Rules.{rules}
-use borrow.Author.Tests.{eq-eqb, ne_eqb}
-use mathlib.Core.Bool.{true, false}
 use Rattle.table.specs.Slots.{is_listed_in, count_step, count_none, directory_at}
-use mathlib.Core.Path.{◌≡◌, sym, ◌∙◌}
-use Rattle.table.proofs.find.entries_in.Goals as goal
 use Rattle.table.proofs.find.entries_in.Goals.{then-get_u32-directory, else-get_u32-directory}
+use Rattle.table.proofs.find.entries_in.Goals as goal
 
 pub loop-i-init : goal.loop-i-init
 loop-i-init c = (search rules, search rules, simp sub-zero (omega arith))

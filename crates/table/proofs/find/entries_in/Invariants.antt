@@ -1,9 +1,6 @@
 -- `table::find::entries_in` meets its contract. The loop's invariant: n, and those from i on. Assumes nothing.
-use mathlib.Core.Path.{◌≡◌}
-use Prim.Native.Nat.{◌+◌, ◌-◌, ◌≤◌}
+use Rattle.std.proofs.Common.{◌≡◌, ◌+◌, ◌-◌, ◌≤◌}
 use Rattle.table.specs.Slots.{is_listed_in, entries_in, count_slots}
-use mathlib.Core.Path.{◌≡◌}
-use Prim.Native.Nat.{◌+◌, ◌-◌, ◌≤◌}
 use Rattle.table.proofs.find.entries_in.Given as goal
 
 abbrev pub invariant-loop-i : goal.invariant-loop-i

@@ -1,12 +1,9 @@
 -- `table::find::entries_used` meets its contract. The loop's invariant: i slots are used, and those that are used from i on.
 -- Assumes nothing.
-use Prim.Native.Nat.{◌+◌, ◌*◌}
-use native.Mathlib.Omega.{arith}
+use Rattle.std.proofs.Common.{◌+◌, ◌*◌, arith, sym, ◌∙◌}
 use borrow.Author.Rules.{rules}
 use Rattle.records.specs.Entries.{entry_mark}
 use Rattle.table.specs.Slots.{used_step, used_none}
-use Prim.Native.Nat.{◌+◌, ◌*◌}
-use mathlib.Core.Path.{sym, ◌∙◌}
 use Rattle.table.proofs.find.entries_used.Goals as goal
 
 pub loop-i-init : goal.loop-i-init

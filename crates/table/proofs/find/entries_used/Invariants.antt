@@ -1,11 +1,8 @@
 -- `table::find::entries_used` meets its contract. The loop's invariant: i slots are used, and those that are used from i on.
 -- Assumes nothing.
-use mathlib.Core.Path.{◌≡◌}
-use Prim.Native.Nat.{◌+◌, ◌*◌, ◌-◌, ◌≤◌}
+use Rattle.std.proofs.Common.{◌≡◌, ◌+◌, ◌*◌, ◌-◌, ◌≤◌}
 use Rattle.records.specs.Entries.{entry_mark}
 use Rattle.document.specs.Tables.{entries_used, used}
-use mathlib.Core.Path.{◌≡◌}
-use Prim.Native.Nat.{◌+◌, ◌*◌, ◌-◌, ◌≤◌}
 use Rattle.table.proofs.find.entries_used.Given as goal
 
 abbrev pub invariant-loop-i : goal.invariant-loop-i

@@ -1,12 +1,10 @@
 -- `table::find::entry` meets its contract. The loop's invariant: the first is the first from i on. Assumes nothing.
-use mathlib.Core.Path.{◌≡◌, sym, ◌∙◌}
-use native.Mathlib.Omega.{arith}
+use Rattle.std.proofs.Common.{◌≡◌, sym, ◌∙◌, arith}
+use Rattle.std.specs.Prelude.{true, false}
 use native.Mathlib.Nat.{sub-zero}
 use borrow.Author.Rules.{rules}
-use mathlib.Core.Bool.{true, false}
 use Rattle.document.specs.Tables.{is_key, entry_in}
 use Rattle.table.specs.Slots.{first_step, first_none}
-use mathlib.Core.Path.{◌≡◌, sym, ◌∙◌}
 use Rattle.table.proofs.find.entry.Goals as goal
 
 pub loop-i-init : goal.loop-i-init

@@ -1,10 +1,8 @@
 -- `table::find::entry` meets its contract. The loop's invariant: the first is the first from i on. Assumes nothing.
-use mathlib.Core.Path.{◌≡◌}
-use Prim.Native.Nat.{ℕ, ◌-◌, ◌≤◌}
+use Rattle.std.proofs.Common.{◌≡◌, ◌-◌, ◌≤◌}
+use Rattle.std.specs.Prelude.{ℕ}
 use Rattle.document.specs.Tables.{is_key, entry_in}
 use Rattle.table.specs.Slots.{first_slot, first_entry}
-use mathlib.Core.Path.{◌≡◌}
-use Prim.Native.Nat.{ℕ, ◌-◌, ◌≤◌}
 use Rattle.table.proofs.find.entry.Given as goal
 
 abbrev pub invariant-loop-i : goal.invariant-loop-i

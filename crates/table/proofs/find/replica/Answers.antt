@@ -1,13 +1,10 @@
 -- `table::find::replica` meets its contract. The loop's invariant: the first is the first from i on. Assumes nothing.
-use mathlib.Core.Path.{◌≡◌, sym, ◌∙◌}
-use native.Mathlib.Omega.{arith}
+use Rattle.std.proofs.Common.{◌≡◌, sym, ◌∙◌, arith, eq-eqb, ne_eqb}
+use Rattle.std.specs.Prelude.{true, false}
 use native.Mathlib.Nat.{sub-zero}
 use borrow.Author.Rules.{rules}
-use borrow.Author.Tests.{eq-eqb, ne_eqb}
-use mathlib.Core.Bool.{true, false}
 use Rattle.document.specs.Tables.{has_id, replica_in}
 use Rattle.table.specs.Slots.{first_step, first_none, id_at}
-use mathlib.Core.Path.{◌≡◌, sym, ◌∙◌}
 use Rattle.table.proofs.find.replica.Goals as goal
 
 pub loop-i-init : goal.loop-i-init

@@ -1,10 +1,8 @@
 -- `table::find::replica` meets its contract. The loop's invariant: the first is the first from i on. Assumes nothing.
-use mathlib.Core.Path.{◌≡◌}
-use Prim.Native.Nat.{ℕ, ◌-◌, ◌≤◌}
+use Rattle.std.proofs.Common.{◌≡◌, ◌-◌, ◌≤◌}
+use Rattle.std.specs.Prelude.{ℕ}
 use Rattle.document.specs.Tables.{has_id, replica_in}
 use Rattle.table.specs.Slots.{first_slot, first_replica}
-use mathlib.Core.Path.{◌≡◌}
-use Prim.Native.Nat.{ℕ, ◌-◌, ◌≤◌}
 use Rattle.table.proofs.find.replica.Given as goal
 
 abbrev pub invariant-loop-i : goal.invariant-loop-i

@@ -1,7 +1,7 @@
 -- `table::hints::entry` meets its contract: the hinted slot has the key and is the first, since keys are unique; a pass over
 -- the slots.
 -- Assumes nothing.
-use mathlib.Core.Path.{sym, ◌∙◌}
+use Rattle.std.proofs.Common.{sym, ◌∙◌}
 use Rattle.table.specs.Hints.{key_only}
 use Rattle.table.proofs.hints.entry.Goals as goal
 

@@ -1,6 +1,6 @@
 -- `table::hints::index_of` meets its contract, which says nothing: what is shown is that each slot fits a cell.
 -- Assumes nothing.
-use Prim.Native.Nat.{◌-◌, ◌≤◌}
+use Rattle.std.proofs.Common.{◌-◌, ◌≤◌}
 use Rattle.table.proofs.hints.index_of.Given as goal
 
 abbrev pub invariant-loop-i : goal.invariant-loop-i

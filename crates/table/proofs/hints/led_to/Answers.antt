@@ -1,7 +1,5 @@
 -- `table::hints::led_to` meets its contract: an empty cell; a slot that was compared; none in 64 cells. Assumes nothing.
-use mathlib.Core.Path.{sym, ◌∙◌}
-use native.Mathlib.Omega.{arith}
-use borrow.Author.Tests.{eq-eqb}
+use Rattle.std.proofs.Common.{sym, ◌∙◌, arith, eq-eqb}
 use Rattle.table.specs.Slots.{id_at}
 use Rattle.table.proofs.hints.led_to.Goals as goal
 

@@ -1,5 +1,5 @@
 -- `table::hints::led_to` meets its contract: an empty cell; a slot that was compared; none in 64 cells. Assumes nothing.
-use Prim.Native.Nat.{◌-◌, ◌≤◌, ◌<◌}
+use Rattle.std.proofs.Common.{◌-◌, ◌≤◌, ◌<◌}
 use Rattle.table.proofs.hints.led_to.Given as goal
 
 abbrev pub invariant-loop-i : goal.invariant-loop-i

@@ -1,6 +1,6 @@
 -- `table::hints::places_of` meets its contract, which says nothing: what is shown is that each i is an entry slot.
 -- Assumes nothing.
-use Prim.Native.Nat.{◌-◌, ◌≤◌}
+use Rattle.std.proofs.Common.{◌-◌, ◌≤◌}
 use Rattle.table.proofs.hints.places_of.Given as goal
 
 abbrev pub invariant-loop-i : goal.invariant-loop-i

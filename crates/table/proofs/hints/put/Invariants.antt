@@ -1,6 +1,6 @@
 -- `table::hints::put` meets its contract, which says nothing: what is shown is that each cell is one of the index.
 -- Assumes nothing.
-use Prim.Native.Nat.{◌-◌, ◌≤◌}
+use Rattle.std.proofs.Common.{◌-◌, ◌≤◌}
 use Rattle.table.proofs.hints.put.Given as goal
 
 abbrev pub invariant-loop-i : goal.invariant-loop-i

@@ -1,6 +1,6 @@
 -- `table::hints::replica` meets its contract: a slot that has the id, which is the first, since ids are unique; a pass
 -- over the slots. Assumes nothing.
-use mathlib.Core.Path.{sym}
+use Rattle.std.proofs.Common.{sym}
 use Rattle.table.specs.Hints.{id_only}
 use Rattle.table.proofs.hints.replica.Goals as goal
 

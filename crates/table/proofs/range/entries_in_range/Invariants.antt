@@ -1,6 +1,5 @@
 -- `table::range::entries_in_range` meets its contract. The loop's invariant: all are exactly if those from i on are. Assumes nothing.
-use mathlib.Core.Path.{◌≡◌}
-use Prim.Native.Nat.{◌-◌, ◌≤◌}
+use Rattle.std.proofs.Common.{◌≡◌, ◌-◌, ◌≤◌}
 use Rattle.document.specs.Tables.{every_slot}
 use Rattle.table.specs.Ranges.{entry_slot_fits}
 use Rattle.table.proofs.range.entries_in_range.Given as goal

@@ -1,8 +1,7 @@
 -- `table::range::in_range` meets its contract: its tests, in the order of the definition. Assumes nothing.
-use mathlib.Core.Path.{◌≡◌, refl, sym, ◌∙◌}
-use native.Mathlib.Omega.{arith}
+use Rattle.std.proofs.Common.{◌≡◌, sym, ◌∙◌, arith, eq-eqb, ne_eqb}
+use Rattle.std.specs.Prelude.{refl}
 use borrow.Author.Rules.{rules}
-use borrow.Author.Tests.{eq-eqb, ne_eqb}
 use Rattle.codec.specs.Bytes.{chunk}
 use Rattle.codec.specs.Lists.{and_stop, and_go}
 use Rattle.document.specs.Tables.{table_of, replicas_used, entries_used}

@@ -1,11 +1,8 @@
 -- `table::rules::entry_keeps` meets its contract: sentence by sentence, in the order of the definition.
 --  Assumes nothing.
-use mathlib.Core.Path.{ap, sym, ◌∙◌}
+use Rattle.std.proofs.Common.{ap, sym, ◌∙◌, eq-eqb, ne_eqb}
+use Rattle.std.specs.Prelude.{ℕ, not, leb}
 use Rattle.codec.specs.Lists.{and_go, and_stop}
-use Prim.Native.Nat.{ℕ}
-use mathlib.Core.Bool.{not}
-use lib.Dec.{leb}
-use borrow.Author.Tests.{eq-eqb, ne_eqb}
 use Rattle.table.specs.Rules.{entry_tests}
 use Rattle.table.proofs.rules.entry_keeps.Goals as goal
 

@@ -1,5 +1,5 @@
 -- `table::rules::holders_include` meets its contract: the root, or the maker; then the own node. Assumes nothing.
-use borrow.Author.Tests.{eq-eqb, ne_eqb}
+use Rattle.std.proofs.Common.{eq-eqb, ne_eqb}
 use Rattle.table.proofs.rules.holders_include.Goals as goal
 
 pub returns-then-h-eq0 : goal.returns-then-h-eq0

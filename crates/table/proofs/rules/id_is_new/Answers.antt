@@ -1,11 +1,9 @@
 -- `table::rules::id_is_new` meets its contract. The loop's invariant: it is new exactly if none from i on has the id.
 -- Assumes nothing.
-use mathlib.Core.Path.{refl, ap, sym, ◌∙◌}
-use native.Mathlib.Omega.{arith}
+use Rattle.std.specs.Prelude.{refl, not}
+use Rattle.std.proofs.Common.{ap, sym, ◌∙◌, arith, eq-eqb, ne_eqb}
 use borrow.Author.Rules.{rules}
-use mathlib.Core.Bool.{not}
 use Rattle.codec.specs.Lists.{and_stop, and_go}
-use borrow.Author.Tests.{eq-eqb, ne_eqb}
 use Rattle.table.specs.Slots.{slots_step, slots_none, id_at}
 use Rattle.table.proofs.rules.id_is_new.Goals as goal
 

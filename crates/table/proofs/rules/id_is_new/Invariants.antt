@@ -1,8 +1,7 @@
 -- `table::rules::id_is_new` meets its contract. The loop's invariant: it is new exactly if none from i on has the id.
 -- Assumes nothing.
-use mathlib.Core.Path.{◌≡◌}
-use Prim.Native.Nat.{ℕ, ◌-◌, ◌≤◌}
-use mathlib.Core.Bool.{not}
+use Rattle.std.proofs.Common.{◌≡◌, ◌-◌, ◌≤◌}
+use Rattle.std.specs.Prelude.{ℕ, not}
 use Rattle.document.specs.Tables.{every_slot, replica_in}
 use Rattle.document.specs.Sound.{same_id}
 use Rattle.table.specs.Rules.{id_new}

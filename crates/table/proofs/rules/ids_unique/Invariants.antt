@@ -1,6 +1,5 @@
 -- `table::rules::ids_unique` meets its contract. The loop's invariant: all are exactly if those from i on are. Assumes nothing.
-use mathlib.Core.Path.{◌≡◌}
-use Prim.Native.Nat.{◌-◌, ◌≤◌}
+use Rattle.std.proofs.Common.{◌≡◌, ◌-◌, ◌≤◌}
 use Rattle.document.specs.Tables.{every_slot}
 use Rattle.table.specs.Rules.{id_new}
 use Rattle.table.proofs.rules.ids_unique.Given as goal

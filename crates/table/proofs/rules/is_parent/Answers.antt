@@ -1,7 +1,6 @@
 -- `table::rules::is_parent` meets its contract: not held; no directory; the depth. Assumes nothing.
-use mathlib.Core.Path.{refl, ap, sym, ◌∙◌}
-use native.Mathlib.Omega.{arith}
-use borrow.Author.Tests.{eq-eqb, ne_eqb}
+use Rattle.std.specs.Prelude.{refl}
+use Rattle.std.proofs.Common.{ap, sym, ◌∙◌, arith, eq-eqb, ne_eqb}
 use Rattle.codec.specs.Lists.{and_stop, and_go}
 use Rattle.document.specs.Sound.{held_and, is_parent}
 use Rattle.table.specs.Rules.{held_at, not_held_law}

@@ -1,5 +1,5 @@
 -- `table::rules::is_place_of` meets its contract: kind, depth, live. Assumes nothing.
-use borrow.Author.Tests.{eq-eqb, ne_eqb}
+use Rattle.std.proofs.Common.{eq-eqb, ne_eqb}
 use Rattle.table.proofs.rules.is_place_of.Goals as goal
 
 pub returns-then-p-ne2 : goal.returns-then-p-ne2

@@ -1,5 +1,6 @@
 -- `table::rules::is_shown_by` meets its contract: not below, and live if equal. Assumes nothing.
-use borrow.Author.Tests.{eq-eqb, ne_eqb, lt-leb, le-leb}
+use Rattle.std.proofs.Common.{eq-eqb, ne_eqb, le-leb}
+use borrow.Author.Tests.{lt-leb}
 use Rattle.table.proofs.rules.is_shown_by.Goals as goal
 
 pub returns-then-e-stamp : goal.returns-then-e-stamp

@@ -1,8 +1,8 @@
 -- `table::rules::keeps` meets its contract: rule by rule, in the order of the definition. Assumes nothing.
-use mathlib.Core.Path.{sym, ◌∙◌}
+use Rattle.std.proofs.Common.{sym, ◌∙◌}
+use borrow.Author.Rules.{rules}
 use Rattle.codec.specs.Lists.{and_go, and_stop}
 use Rattle.table.specs.Rules.{rule_tests}
-use borrow.Author.Rules.{rules}
 use Rattle.table.proofs.rules.keeps.Goals as goal
 
 pub returns-then-not-root_first : goal.returns-then-not-root_first

@@ -1,12 +1,10 @@
 -- `table::rules::key_is_new` meets its contract. The loop's invariant: it is new exactly if none from i on has the key.
 -- Assumes nothing.
+use Rattle.std.specs.Prelude.{refl, not}
+use Rattle.std.proofs.Common.{ap, sym, ◌∙◌, arith}
 use Rattle.table.specs.Rules.{key_test}
-use mathlib.Core.Path.{refl, ap, sym, ◌∙◌}
-use native.Mathlib.Omega.{arith}
-use mathlib.Core.Bool.{not}
 use Rattle.codec.specs.Lists.{and_stop, and_go}
 use Rattle.table.specs.Slots.{slots_step, slots_none}
-use mathlib.Core.Bool.{not}
 use Rattle.table.proofs.rules.key_is_new.Goals as goal
 
 pub returns-then-has_key : goal.returns-then-has_key
@@ -23,7 +21,8 @@ loop-i-preserved c =
       l.invariant.2,
       l.invariant.3,
       l.invariant.4 ∙ slots_step _ _ _ c.loop-i-test.true
-          ∙ sym (and_go _ _ (ap not (sym (key_test c.args.t.now c.args.s l.i _ _ _ l.invariant.1 l.invariant.2 l.invariant.3) ∙ sym c.has_key.ensures ∙ c.if-has_key.false)) refl),
+          ∙ sym (and_go _ _ (ap not (sym (key_test c.args.t.now c.args.s l.i _ _ _ l.invariant.1 l.invariant.2 l.invariant.3) ∙ sym c.has_key.ensures
+          ∙ c.if-has_key.false)) refl),
     )
 
 pub returns : goal.returns

@@ -1,13 +1,10 @@
 -- `table::rules::key_is_new` meets its contract. The loop's invariant: it is new exactly if none from i on has the key.
 -- Assumes nothing.
-use mathlib.Core.Path.{◌≡◌}
-use Prim.Native.Nat.{ℕ, ◌-◌, ◌≤◌}
-use mathlib.Core.Bool.{not}
+use Rattle.std.proofs.Common.{◌≡◌, ◌-◌, ◌≤◌}
+use Rattle.std.specs.Prelude.{ℕ, not}
 use Rattle.document.specs.Tables.{every_slot, entry_in}
 use Rattle.document.specs.Sound.{same_key}
 use Rattle.table.specs.Rules.{key_new}
-use mathlib.Core.Bool.{not}
-use Rattle.document.specs.Tables.{every_slot, entry_in}
 use Rattle.table.proofs.rules.key_is_new.Given as goal
 
 abbrev pub invariant-loop-i : goal.invariant-loop-i

@@ -1,5 +1,5 @@
 -- `table::rules::own_below_next` meets its contract: the maker, then the count. Assumes nothing.
-use borrow.Author.Tests.{eq-eqb, ne_eqb}
+use Rattle.std.proofs.Common.{eq-eqb, ne_eqb}
 use Rattle.table.proofs.rules.own_below_next.Goals as goal
 
 pub returns-then-maker-own : goal.returns-then-maker-own

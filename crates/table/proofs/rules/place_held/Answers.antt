@@ -1,7 +1,5 @@
 -- `table::rules::place_held` meets its contract: the root; a place that is not held; one that is. Assumes nothing.
-use mathlib.Core.Path.{ap, sym, ◌∙◌}
-use native.Mathlib.Omega.{arith}
-use borrow.Author.Tests.{eq-eqb, ne_eqb}
+use Rattle.std.proofs.Common.{ap, sym, ◌∙◌, arith, eq-eqb, ne_eqb}
 use Rattle.codec.specs.Lists.{or_stop, or_go}
 use Rattle.document.specs.Sound.{held_and, is_place_of}
 use Rattle.table.specs.Rules.{held_at, not_held_law}

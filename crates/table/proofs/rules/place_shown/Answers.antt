@@ -1,9 +1,7 @@
 -- `table::rules::place_shown` meets its contract: dead; the root; no entry; the entry. Assumes nothing.
-use mathlib.Core.Path.{ap, sym, ◌∙◌}
-use mathlib.Core.Bool.{not}
+use Rattle.std.proofs.Common.{ap, sym, ◌∙◌, arith, eq-eqb, ne_eqb}
+use Rattle.std.specs.Prelude.{not}
 use mathlib.Core.Option.{some}
-use native.Mathlib.Omega.{arith}
-use borrow.Author.Tests.{eq-eqb, ne_eqb}
 use Rattle.codec.specs.Lists.{or_stop, or_go}
 use Rattle.records.specs.declared.entry.Entry.{Entry}
 use Rattle.document.specs.Sound.{shows}

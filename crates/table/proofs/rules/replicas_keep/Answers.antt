@@ -1,6 +1,6 @@
 -- `table::rules::replicas_keep` meets its contract. The loop's invariant: all do exactly if those from i on do. Assumes nothing.
-use mathlib.Core.Path.{refl, sym, ◌∙◌}
-use native.Mathlib.Omega.{arith}
+use Rattle.std.specs.Prelude.{refl}
+use Rattle.std.proofs.Common.{sym, ◌∙◌, arith}
 use native.Mathlib.Nat.{sub-zero}
 use borrow.Author.Rules.{rules}
 use Rattle.codec.specs.Lists.{and_stop, and_go}

@@ -1,8 +1,6 @@
 -- `table::rules::root_first` meets its contract: there is a slot 0, and the root in it. Assumes nothing.
-use mathlib.Core.Path.{ap, sym, ◌∙◌}
-use Prim.Native.Nat.{ℕ}
-use native.Mathlib.Omega.{arith}
-use borrow.Author.Tests.{lt-ltb, le-ltb}
+use Rattle.std.proofs.Common.{ap, sym, ◌∙◌, arith, lt-ltb, le-ltb}
+use Rattle.std.specs.Prelude.{ℕ}
 use Rattle.codec.specs.Lists.{and_stop, and_go}
 use Rattle.codec.specs.Bytes.{chunk}
 use Rattle.records.specs.Heads.{is_root}

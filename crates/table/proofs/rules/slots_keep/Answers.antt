@@ -1,7 +1,7 @@
 -- `table::rules::slots_keep` meets its contract: the entries, then the replicas. Assumes nothing.
+use Rattle.std.proofs.Common.{sym, ◌∙◌}
 use borrow.Author.Rules.{rules}
 use Rattle.codec.specs.Lists.{and_go, and_stop}
-use mathlib.Core.Path.{sym, ◌∙◌}
 use Rattle.table.proofs.rules.slots_keep.Goals as goal
 
 pub returns-then-not-entries_keep : goal.returns-then-not-entries_keep

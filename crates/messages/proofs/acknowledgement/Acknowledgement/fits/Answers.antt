@@ -1,8 +1,8 @@
 -- `messages::acknowledgement::Acknowledgement::fits` meets its contract: field by field, in the order of the definition.
 -- Assumes nothing.
+use Rattle.std.proofs.Common.{sym, ◌∙◌}
 use Rattle.codec.specs.Lists.{and_go, and_stop}
 use Rattle.messages.specs.Acknowledgements.{ack_fits}
-use mathlib.Core.Path.{sym, ◌∙◌}
 use Rattle.messages.proofs.acknowledgement.Acknowledgement.fits.Goals as goal
 
 pub returns-then-not-is_node : goal.returns-then-not-is_node

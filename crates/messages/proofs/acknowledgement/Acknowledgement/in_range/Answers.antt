@@ -1,5 +1,5 @@
 -- `messages::acknowledgement::Acknowledgement::in_range` meets its contract: the mark, the zeros, the fields. Assumes nothing.
-use mathlib.Core.Path.{ap, sym, ◌∙◌}
+use Rattle.std.proofs.Common.{ap, sym, ◌∙◌}
 use Rattle.codec.specs.Lists.{and_go, and_stop}
 use Rattle.messages.specs.Acknowledgements.{ack_fits, ack_range}
 use Rattle.messages.proofs.acknowledgement.Acknowledgement.in_range.Goals as goal

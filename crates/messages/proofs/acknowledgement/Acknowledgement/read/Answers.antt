@@ -1,7 +1,6 @@
 -- `messages::acknowledgement::Acknowledgement::read` meets its contract: each field from its place. Assumes nothing.
-use mathlib.Core.Path.{sym, ◌∙◌}
+use Rattle.std.proofs.Common.{sym, ◌∙◌}
 use Rattle.messages.specs.Acknowledgements.{ack_ext, ack_fields}
-use Rattle.messages.specs.Acknowledgements.{ack_fields}
 use Rattle.messages.proofs.acknowledgement.Acknowledgement.read.Goals as goal
 
 pub returns : goal.returns

@@ -1,5 +1,5 @@
 -- `messages::acknowledgement::Acknowledgement::write` meets its contract: its stores, one behind the other, are the record's bytes. Assumes nothing.
-use mathlib.Core.Path.{◌∙◌}
+use Rattle.std.proofs.Common.{◌∙◌}
 use Rattle.codec.specs.Laws.{after}
 use Rattle.messages.specs.Acknowledgements.{ack_stores}
 use Rattle.messages.proofs.acknowledgement.Acknowledgement.write.Goals as goal

@@ -1,5 +1,5 @@
 -- `messages::push_header::PushHeader::in_range` meets its contract: the mark, the zeros, the fields. Assumes nothing.
-use mathlib.Core.Path.{ap, sym, ◌∙◌}
+use Rattle.std.proofs.Common.{ap, sym, ◌∙◌}
 use Rattle.codec.specs.Lists.{and_go, and_stop}
 use Rattle.messages.specs.PushHeaders.{push_fits, push_range}
 use Rattle.messages.proofs.push_header.PushHeader.in_range.Goals as goal

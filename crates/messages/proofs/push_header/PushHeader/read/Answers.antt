@@ -1,7 +1,6 @@
 -- `messages::push_header::PushHeader::read` meets its contract: each field from its place. Assumes nothing.
-use mathlib.Core.Path.{sym, ◌∙◌}
+use Rattle.std.proofs.Common.{sym, ◌∙◌}
 use Rattle.messages.specs.PushHeaders.{push_ext, push_fields}
-use Rattle.messages.specs.PushHeaders.{push_fields}
 use Rattle.messages.proofs.push_header.PushHeader.read.Goals as goal
 
 pub returns : goal.returns

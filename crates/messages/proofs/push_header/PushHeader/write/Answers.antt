@@ -1,5 +1,5 @@
 -- `messages::push_header::PushHeader::write` meets its contract: its stores, one behind the other, are the record's bytes. Assumes nothing.
-use mathlib.Core.Path.{◌∙◌}
+use Rattle.std.proofs.Common.{◌∙◌}
 use Rattle.codec.specs.Laws.{after}
 use Rattle.messages.specs.PushHeaders.{push_stores}
 use Rattle.messages.proofs.push_header.PushHeader.write.Goals as goal

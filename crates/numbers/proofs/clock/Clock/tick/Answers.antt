@@ -1,7 +1,6 @@
 -- `numbers::clock::Clock::tick` meets its contract: the test picks the larger. Assumes nothing.
-use mathlib.Core.Path.{◌≡◌, ap, ◌∙◌}
-use Prim.Native.Nat.{ℕ, ◌+◌}
-use native.Mathlib.Omega.{arith}
+use Rattle.std.proofs.Common.{◌≡◌, ap, ◌∙◌, ◌+◌, arith}
+use Rattle.std.specs.Prelude.{ℕ}
 use Rattle.numbers.specs.Clocks.{ticked_at, new_clock}
 use Rattle.numbers.proofs.clock.Clock.tick.Goals as goal
 

@@ -1,11 +1,9 @@
 -- `records::entry::Entry::fits` meets its contract: field by field, in the order of the definition.
 -- Assumes nothing.
-use borrow.Author.Tests.{le-leb, lt-leb}
+use Rattle.std.proofs.Common.{le-leb, sym, ◌∙◌}
+use borrow.Author.Tests.{lt-leb}
 use Rattle.codec.specs.Lists.{and_go, and_stop}
 use Rattle.records.specs.Entries.{entry_fits}
-use borrow.Author.Tests.{le-leb, lt-leb}
-use Rattle.codec.specs.Lists.{and_go, and_stop}
-use mathlib.Core.Path.{sym, ◌∙◌}
 use Rattle.records.proofs.entry.Entry.fits.Goals as goal
 
 pub returns-then-self-gt1 : goal.returns-then-self-gt1

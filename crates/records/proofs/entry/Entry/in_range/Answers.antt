@@ -1,5 +1,5 @@
 -- `records::entry::Entry::in_range` meets its contract: the mark, the zeros, the fields. Assumes nothing.
-use mathlib.Core.Path.{ap, sym, ◌∙◌}
+use Rattle.std.proofs.Common.{ap, sym, ◌∙◌}
 use Rattle.codec.specs.Lists.{and_go, and_stop}
 use Rattle.records.specs.Entries.{entry_fits, entry_range_law}
 use Rattle.records.proofs.entry.Entry.in_range.Goals as goal

@@ -1,7 +1,6 @@
 -- `records::entry::Entry::read` meets its contract: each field from its place. Assumes nothing.
-use mathlib.Core.Path.{sym, ◌∙◌}
+use Rattle.std.proofs.Common.{sym, ◌∙◌}
 use Rattle.records.specs.Entries.{entry_ext, entry_fields}
-use Rattle.records.specs.Entries.{entry_fields}
 use Rattle.records.proofs.entry.Entry.read.Goals as goal
 
 pub returns : goal.returns

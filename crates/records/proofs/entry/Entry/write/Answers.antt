@@ -1,5 +1,5 @@
 -- `records::entry::Entry::write` meets its contract: its stores, one behind the other, are the record's bytes. Assumes nothing.
-use mathlib.Core.Path.{◌∙◌}
+use Rattle.std.proofs.Common.{◌∙◌}
 use Rattle.codec.specs.Laws.{after}
 use Rattle.records.specs.Entries.{entry_stores}
 use Rattle.records.proofs.entry.Entry.write.Goals as goal

@@ -1,5 +1,5 @@
 -- `records::head::Head::fits` meets its contract: the root, or any other. Assumes nothing.
-use borrow.Author.Tests.{eq-eqb, ne_eqb}
+use Rattle.std.proofs.Common.{eq-eqb, ne_eqb}
 use Rattle.records.specs.Heads.{head_fits}
 use Rattle.records.proofs.head.Head.fits.Goals as goal
 

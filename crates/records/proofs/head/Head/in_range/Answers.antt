@@ -1,5 +1,5 @@
 -- `records::head::Head::in_range` meets its contract: the mark, the zeros, the fields. Assumes nothing.
-use mathlib.Core.Path.{ap, sym, ◌∙◌}
+use Rattle.std.proofs.Common.{ap, sym, ◌∙◌}
 use Rattle.codec.specs.Lists.{and_go, and_stop}
 use Rattle.records.specs.Heads.{head_fits, head_range_law}
 use Rattle.records.proofs.head.Head.in_range.Goals as goal

@@ -1,7 +1,6 @@
 -- `records::head::Head::is_root` meets its contract: field by field, in the order of the definition.
 -- Assumes nothing.
-use mathlib.Core.Path.{sym, ◌∙◌}
-use borrow.Author.Tests.{eq-eqb, ne_eqb}
+use Rattle.std.proofs.Common.{sym, ◌∙◌, eq-eqb, ne_eqb}
 use Rattle.codec.specs.Lists.{and_go, and_stop}
 use Rattle.records.specs.Heads.{is_root}
 use Rattle.records.proofs.head.Head.is_root.Goals as goal

@@ -1,7 +1,6 @@
 -- `records::head::Head::read` meets its contract: each field from its place. Assumes nothing.
-use mathlib.Core.Path.{sym, ◌∙◌}
+use Rattle.std.proofs.Common.{sym, ◌∙◌}
 use Rattle.records.specs.Heads.{head_ext, head_fields}
-use Rattle.records.specs.Heads.{head_fields}
 use Rattle.records.proofs.head.Head.read.Goals as goal
 
 pub returns : goal.returns

@@ -1,5 +1,5 @@
 -- `records::head::Head::root` meets its contract. Assumes nothing.
-use mathlib.Core.Path.{refl}
+use Rattle.std.specs.Prelude.{refl}
 use Rattle.records.specs.Heads.{head_ext}
 use Rattle.records.proofs.head.Head.root.Goals as goal
 

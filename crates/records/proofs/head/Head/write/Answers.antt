@@ -1,5 +1,5 @@
 -- `records::head::Head::write` meets its contract: its stores, one behind the other, are the record's bytes. Assumes nothing.
-use mathlib.Core.Path.{◌∙◌}
+use Rattle.std.proofs.Common.{◌∙◌}
 use Rattle.codec.specs.Laws.{after}
 use Rattle.records.specs.Heads.{head_stores}
 use Rattle.records.proofs.head.Head.write.Goals as goal

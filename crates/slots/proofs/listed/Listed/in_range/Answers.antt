@@ -1,5 +1,5 @@
 -- `slots::listed::Listed::in_range` meets its contract: part by part, in the order of the definition. Assumes nothing.
-use mathlib.Core.Path.{ap, sym, ◌∙◌}
+use Rattle.std.proofs.Common.{ap, sym, ◌∙◌}
 use Rattle.codec.specs.Lists.{and_go, and_stop}
 use Rattle.slots.specs.Listings.{listed_range}
 use Rattle.numbers.specs.Ids.{is_id}

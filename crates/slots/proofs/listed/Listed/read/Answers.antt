@@ -1,7 +1,6 @@
 -- `slots::listed::Listed::read` meets its contract: each field from its place. Assumes nothing.
-use mathlib.Core.Path.{sym, ◌∙◌}
+use Rattle.std.proofs.Common.{sym, ◌∙◌}
 use Rattle.slots.specs.Listings.{listed_ext, listed_fields}
-use Rattle.slots.specs.Listings.{listed_fields}
 use Rattle.slots.proofs.listed.Listed.read.Goals as goal
 
 pub returns : goal.returns

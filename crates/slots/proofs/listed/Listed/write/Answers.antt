@@ -1,5 +1,5 @@
 -- `slots::listed::Listed::write` meets its contract: its stores, one behind the other, are the record's bytes. Assumes nothing.
-use mathlib.Core.Path.{◌∙◌}
+use Rattle.std.proofs.Common.{◌∙◌}
 use Rattle.codec.specs.Laws.{after}
 use Rattle.slots.specs.Listings.{listed_stores}
 use Rattle.slots.proofs.listed.Listed.write.Goals as goal

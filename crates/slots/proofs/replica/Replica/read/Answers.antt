@@ -1,7 +1,6 @@
 -- `slots::replica::Replica::read` meets its contract: each field from its place. Assumes nothing.
-use mathlib.Core.Path.{sym, ◌∙◌}
+use Rattle.std.proofs.Common.{sym, ◌∙◌}
 use Rattle.slots.specs.Replicas.{replica_ext, replica_fields}
-use Rattle.slots.specs.Replicas.{replica_fields}
 use Rattle.slots.proofs.replica.Replica.read.Goals as goal
 
 pub returns : goal.returns

@@ -1,5 +1,5 @@
 -- `slots::replica::Replica::write` meets its contract: its stores, one behind the other, are the record's bytes. Assumes nothing.
-use mathlib.Core.Path.{◌∙◌}
+use Rattle.std.proofs.Common.{◌∙◌}
 use Rattle.codec.specs.Laws.{after}
 use Rattle.slots.specs.Replicas.{replica_stores}
 use Rattle.slots.proofs.replica.Replica.write.Goals as goal

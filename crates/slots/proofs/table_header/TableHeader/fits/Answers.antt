@@ -1,9 +1,9 @@
 -- `slots::table_header::TableHeader::fits` meets its contract: field by field, in the order of the definition.
 -- Assumes nothing.
+use Rattle.std.specs.Prelude.{refl}
+use Rattle.std.proofs.Common.{sym, ◌∙◌}
 use Rattle.codec.specs.Lists.{and_go, and_stop}
-use mathlib.Core.Path.{refl}
 use Rattle.slots.specs.TableHeaders.{table_header_fits}
-use mathlib.Core.Path.{sym, ◌∙◌}
 use Rattle.slots.proofs.table_header.TableHeader.fits.Goals as goal
 
 pub returns-then-not-is_size : goal.returns-then-not-is_size

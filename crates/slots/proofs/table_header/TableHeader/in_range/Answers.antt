@@ -1,5 +1,5 @@
 -- `slots::table_header::TableHeader::in_range` meets its contract: the mark, the zeros, the fields. Assumes nothing.
-use mathlib.Core.Path.{ap, sym, ◌∙◌}
+use Rattle.std.proofs.Common.{ap, sym, ◌∙◌}
 use Rattle.codec.specs.Lists.{and_go, and_stop}
 use Rattle.slots.specs.TableHeaders.{table_header_fits, table_range}
 use Rattle.slots.proofs.table_header.TableHeader.in_range.Goals as goal

@@ -1,7 +1,6 @@
 -- `slots::table_header::TableHeader::read` meets its contract: each field from its place. Assumes nothing.
-use mathlib.Core.Path.{sym, ◌∙◌}
+use Rattle.std.proofs.Common.{sym, ◌∙◌}
 use Rattle.slots.specs.TableHeaders.{table_ext, table_fields}
-use Rattle.slots.specs.TableHeaders.{table_fields}
 use Rattle.slots.proofs.table_header.TableHeader.read.Goals as goal
 
 pub returns : goal.returns

@@ -1,5 +1,5 @@
 -- `slots::table_header::TableHeader::write` meets its contract: its stores, one behind the other, are the record's bytes. Assumes nothing.
-use mathlib.Core.Path.{◌∙◌}
+use Rattle.std.proofs.Common.{◌∙◌}
 use Rattle.codec.specs.Laws.{after}
 use Rattle.slots.specs.TableHeaders.{table_stores}
 use Rattle.slots.proofs.table_header.TableHeader.write.Goals as goal
