@@ -11,13 +11,11 @@ loop-i-init c = (search rules, refl)
 
 pub returns-then-s-i : goal.returns-then-s-i
 returns-then-s-i c =
-    let l = c.loop-i in
-    sym (l.invariant.1 ∙ every_step _ _ 0 _ c.loop-i-test.true ∙ simp (ne_eqb _ _ c.if-s-i.true))
+    sym (c.loop-i.invariant.1 ∙ every_step _ _ 0 _ c.loop-i-test.true ∙ simp (ne_eqb _ _ c.if-s-i.true))
 
 pub loop-i-preserved : goal.loop-i-preserved
 loop-i-preserved c =
-    let l = c.loop-i in
-    (omega arith, l.invariant.1 ∙ every_step _ _ 0 _ c.loop-i-test.true ∙ simp (eq-eqb _ _ c.if-s-i.false))
+    (omega arith, c.loop-i.invariant.1 ∙ every_step _ _ 0 _ c.loop-i-test.true ∙ simp (eq-eqb _ _ c.if-s-i.false))
 
 pub returns : goal.returns
 returns c = sym (c.loop-i.invariant.1 ∙ every_none _ _ _ c.loop-i-test.false)

@@ -14,8 +14,7 @@ returns-then-get_u64-ne0 c = c.loop-i.invariant
 
 pub loop-i-preserved : goal.loop-i-preserved
 loop-i-preserved c =
-    let l = c.loop-i in
-    (omega arith, l.invariant.1 ∙ zeros_skipped _ l.i 8 (sym c.get_u64.ensures ∙ c.if-get_u64-ne0.false))
+    (omega arith, c.loop-i.invariant.1 ∙ zeros_skipped _ c.loop-i.i 8 (sym c.get_u64.ensures ∙ c.if-get_u64-ne0.false))
 
 pub returns : goal.returns
 returns c = c.loop-i.invariant

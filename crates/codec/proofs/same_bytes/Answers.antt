@@ -14,9 +14,8 @@ loop-i-init c = (search rules, search rules, refl)
 
 pub returns-then-a-i : goal.returns-then-a-i
 returns-then-a-i c =
-    let l = c.loop-i in
     sym
-    (l.invariant.2 ∙ same_step c.args.a.now c.args.b.now l.i (search rules) (search rules)
+    (c.loop-i.invariant.2 ∙ same_step c.args.a.now c.args.b.now c.loop-i.i (search rules) (search rules)
     ∙ simp (ne_eqb _ _ c.if-a-i.true))
 
 pub loop-i-preserved : goal.loop-i-preserved

@@ -15,52 +15,40 @@ take_heads-requires c =
     )
 
 pub returns-then-not-take_heads : goal.returns-then-not-take_heads
-returns-then-not-take_heads c =
-    let pre = c.requires in
-    let slice-known = c.slice_known-1 in
-    let take-heads = c.take_heads in (
-      heads_full pre (λ n. (slice-known.given n).fits)
-          take-heads.ensures c.if-not-take_heads.true,
-      λ e. never e,
-    )
+returns-then-not-take_heads c = (
+  heads_full c.requires (λ n. (c.slice_known-1.given n).fits)
+      c.take_heads.ensures c.if-not-take_heads.true,
+  λ e. never e,
+)
 
 pub join_all-requires : goal.join_all-requires
 join_all-requires c =
     let pre = c.requires in
-    let slice-known = c.slice_known-1 in
-    let take-heads = c.take_heads in
-    let if1 = c.if-not-take_heads in (
+    let slice-known = c.slice_known-1 in (
       heads_works pre (λ n. (slice-known.given n).fits)
-          take-heads.ensures if1.false,
+          c.take_heads.ensures c.if-not-take_heads.false,
       merge_long pre (λ n. (slice-known.given n).fits),
       merge_sized pre (λ n. (slice-known.given n).fits),
       heads_held pre (λ n. (slice-known.given n).fits)
-          take-heads.ensures if1.false,
+          c.take_heads.ensures c.if-not-take_heads.false,
     )
 
 pub returns-then-not-join_all : goal.returns-then-not-join_all
-returns-then-not-join_all c =
-    let pre = c.requires in
-    let slice-known = c.slice_known-1 in
-    let take-heads = c.take_heads in
-    let if1 = c.if-not-take_heads in
-    let joins = c.join_all in (
-      entries_full pre (λ n. (slice-known.given n).fits)
-          take-heads.ensures if1.false
-          joins.ensures c.if-not-join_all.true,
-      λ e. never e,
-    )
+returns-then-not-join_all c = (
+  entries_full c.requires (λ n. (c.slice_known-1.given n).fits)
+      c.take_heads.ensures c.if-not-take_heads.false
+      c.join_all.ensures c.if-not-join_all.true,
+  λ e. never e,
+)
 
 pub mend_all-requires : goal.mend_all-requires
 mend_all-requires c =
-    let args = c.args in
     let pre = c.requires in
-    let slice-known = c.slice_known-1 in
     let take-heads = c.take_heads in
     let if1 = c.if-not-take_heads in
     let joins = c.join_all in
     let if2 = c.if-not-join_all in
-    let a : Bytes args.t.now = (λ n. (slice-known.given n).fits) in (
+    let a : Bytes c.args.t.now = (λ n. (c.slice_known-1.given n).fits) in (
       entries_works pre a take-heads.ensures if1.false
           joins.ensures if2.false,
       entries_base pre a take-heads.ensures if1.false
@@ -74,17 +62,9 @@ mend_all-requires c =
 
 pub returns : goal.returns
 returns c =
-    let args = c.args in
-    let pre = c.requires in
-    let slice-known = c.slice_known-1 in
-    let take-heads = c.take_heads in
-    let if1 = c.if-not-take_heads in
-    let joins = c.join_all in
-    let if2 = c.if-not-join_all in
-    let mend-all = c.mend_all in
-    let a : Bytes args.t.now = (λ n. (slice-known.given n).fits) in (
-      merge_made pre a take-heads.ensures if1.false
-          joins.ensures if2.false mend-all.ensures,
-      merge_grown pre a take-heads.ensures if1.false
-          joins.ensures if2.false mend-all.ensures,
+    let a : Bytes c.args.t.now = (λ n. (c.slice_known-1.given n).fits) in (
+      merge_made c.requires a c.take_heads.ensures c.if-not-take_heads.false
+          c.join_all.ensures c.if-not-join_all.false c.mend_all.ensures,
+      merge_grown c.requires a c.take_heads.ensures c.if-not-take_heads.false
+          c.join_all.ensures c.if-not-join_all.false c.mend_all.ensures,
     )

@@ -11,23 +11,20 @@ loop-i-init c = (search rules, refl)
 
 pub returns-then-s-i-eq0 : goal.returns-then-s-i-eq0
 returns-then-s-i-eq0 c =
-    let l = c.loop-i in
-    sym (l.invariant.1 ∙ every_step _ _ 0 _ c.loop-i-test.true ∙ simp (eq-eqb _ _ c.if-s-i-eq0.true))
+    sym (c.loop-i.invariant.1 ∙ every_step _ _ 0 _ c.loop-i-test.true ∙ simp (eq-eqb _ _ c.if-s-i-eq0.true))
 
 pub returns-then-s-i-eq47 : goal.returns-then-s-i-eq47
 returns-then-s-i-eq47 c =
-    let l = c.loop-i in
     sym
-    (l.invariant.1 ∙ every_step _ _ 0 _ c.loop-i-test.true
+    (c.loop-i.invariant.1 ∙ every_step _ _ 0 _ c.loop-i-test.true
     ∙ simp (ne_eqb _ _ c.if-s-i-eq0.false, eq-eqb _ _ c.if-s-i-eq47.true))
 
 pub loop-i-preserved : goal.loop-i-preserved
-loop-i-preserved c =
-    let l = c.loop-i in (
-      omega arith,
-      l.invariant.1 ∙ every_step _ _ 0 _ c.loop-i-test.true
-          ∙ simp (ne_eqb _ _ c.if-s-i-eq0.false, ne_eqb _ _ c.if-s-i-eq47.false),
-    )
+loop-i-preserved c = (
+  omega arith,
+  c.loop-i.invariant.1 ∙ every_step _ _ 0 _ c.loop-i-test.true
+      ∙ simp (ne_eqb _ _ c.if-s-i-eq0.false, ne_eqb _ _ c.if-s-i-eq47.false),
+)
 
 pub returns : goal.returns
 returns c = sym (c.loop-i.invariant.1 ∙ every_none _ _ _ c.loop-i-test.false)

@@ -13,48 +13,39 @@ replica-found-requires c = (c.requires.0, omega (arith, c.requires.1, few_replic
 pub returns-in_default : goal.returns-in_default
 returns-in_default c =
     let a = c.args in
-    let pre = c.requires in
-    let replica = c.replica-found in
     let none =
-    not_found a.t.now a.m a.h.id pre.1 (sym replica.ensures ∙ c.in_default.is) in
+    not_found a.t.now a.m a.h.id c.requires.1 (sym c.replica-found.ensures ∙ c.in_default.is) in
     agrees_absent (table_of a.t.now) a.h _ none c.is_foreign.ensures
 
 pub overflow_mul-i : goal.overflow_mul-i
 overflow_mul-i c =
     let a = c.args in
-    let pre = c.requires in
-    let replica = c.replica-found in
     let f =
-    found_head a.t.now a.m a.h.id c.in-At.i pre.1
-    (sym replica.ensures ∙ c.in-At.is) in
-    omega (arith, f.0, pre.1, few_replicas a.t.now)
+    found_head a.t.now a.m a.h.id c.in-At.i c.requires.1
+    (sym c.replica-found.ensures ∙ c.in-At.is) in
+    omega (arith, f.0, c.requires.1, few_replicas a.t.now)
 
 pub overflow_add-i : goal.overflow_add-i
 overflow_add-i c =
     let a = c.args in
-    let pre = c.requires in
-    let replica = c.replica-found in
     let f =
-    found_head a.t.now a.m a.h.id c.in-At.i pre.1
-    (sym replica.ensures ∙ c.in-At.is) in
-    omega (arith, f.0, pre.1, few_replicas a.t.now)
+    found_head a.t.now a.m a.h.id c.in-At.i c.requires.1
+    (sym c.replica-found.ensures ∙ c.in-At.is) in
+    omega (arith, f.0, c.requires.1, few_replicas a.t.now)
 
 pub read-requires : goal.read-requires
 read-requires c =
     let a = c.args in
     let pre = c.requires in
-    let replica = c.replica-found in
     let f =
     found_head a.t.now a.m a.h.id c.in-At.i pre.1
-    (sym replica.ensures ∙ c.in-At.is) in
+    (sym c.replica-found.ensures ∙ c.in-At.is) in
     omega (arith, f.0, pre.0, pre.1, few_replicas a.t.now)
 
 pub returns : goal.returns
 returns c =
     let a = c.args in
-    let pre = c.requires in
-    let replica = c.replica-found in
     let f =
-    found_head a.t.now a.m a.h.id c.in-At.i pre.1
-    (sym replica.ensures ∙ c.in-At.is) in
+    found_head a.t.now a.m a.h.id c.in-At.i c.requires.1
+    (sym c.replica-found.ensures ∙ c.in-At.is) in
     agrees_held (table_of a.t.now) a.h _ _ (f.1 ∙ ap some (sym c.read.ensures)) c.is_like.ensures

@@ -7,8 +7,6 @@ use Rattle.judge.proofs.heads.is_foreign.Goals as goal
 
 pub returns : goal.returns
 returns c =
-    let a = c.args in
-    let read = c.read-header in
-    let own : read.result.own ≡ (table_of a.t.now).own =
-    ap (λ (z : TableHeader). z.own) (read.ensures ∙ header_read a.t.now) in
+    let own : c.read-header.result.own ≡ (table_of c.args.t.now).own =
+    ap (λ (z : TableHeader). z.own) (c.read-header.ensures ∙ header_read c.args.t.now) in
     cc (own, c.maker.ensures)

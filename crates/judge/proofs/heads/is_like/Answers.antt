@@ -7,53 +7,36 @@ use Rattle.judge.proofs.heads.is_like.Goals as goal
 
 pub returns-then-o-h : goal.returns-then-o-h
 returns-then-o-h c =
-    let a = c.args in
     and_stop _ _ (ne_eqb _ _ c.if-o-h.true)
-    ∙ sym (like_tests a.h a.o)
+    ∙ sym (like_tests c.args.h c.args.o)
 
 pub returns-then-not-is_steady : goal.returns-then-not-is_steady
 returns-then-not-is_steady c =
-    let a = c.args in
-    let if1 = c.if-o-h in
-    let kind = eq-eqb _ _ if1.false in
+    let kind = eq-eqb _ _ c.if-o-h.false in
     and_go _ _ kind (and_stop _ _ (sym c.is_steady.ensures ∙ c.if-not-is_steady.true))
-    ∙ sym (like_tests a.h a.o)
+    ∙ sym (like_tests c.args.h c.args.o)
 
 pub returns-then-o-h-2 : goal.returns-then-o-h-2
 returns-then-o-h-2 c =
-    let a = c.args in
-    let if1 = c.if-o-h in
-    let is-steady = c.is_steady in
-    let if2 = c.if-not-is_steady in
-    let kind = eq-eqb _ _ if1.false in
-    let steady = (sym is-steady.ensures ∙ if2.false) in
+    let kind = eq-eqb _ _ c.if-o-h.false in
+    let steady = (sym c.is_steady.ensures ∙ c.if-not-is_steady.false) in
     and_go _ _ kind (and_go _ _ steady (or_stop _ _ (ap not (ne_eqb _ _ c.if-o-h-2.true))))
-    ∙ sym (like_tests a.h a.o)
+    ∙ sym (like_tests c.args.h c.args.o)
 
 pub returns-then-o-h-3 : goal.returns-then-o-h-3
 returns-then-o-h-3 c =
-    let a = c.args in
-    let if1 = c.if-o-h in
-    let is-steady = c.is_steady in
-    let if2 = c.if-not-is_steady in
-    let if3 = c.if-o-h-2 in
-    let kind = eq-eqb _ _ if1.false in
-    let steady = (sym is-steady.ensures ∙ if2.false) in
-    let stamp = ap not (eq-eqb _ _ if3.false) in
+    let kind = eq-eqb _ _ c.if-o-h.false in
+    let steady = (sym c.is_steady.ensures ∙ c.if-not-is_steady.false) in
+    let stamp = ap not (eq-eqb _ _ c.if-o-h-2.false) in
     and_go _ _ kind
     (and_go _ _ steady (or_go _ _ stamp (and_stop _ _ (ne_eqb _ _ c.if-o-h-3.true))))
-    ∙ sym (like_tests a.h a.o)
+    ∙ sym (like_tests c.args.h c.args.o)
 
 pub returns : goal.returns
 returns c =
-    let a = c.args in
-    let if1 = c.if-o-h in
-    let is-steady = c.is_steady in
-    let if2 = c.if-not-is_steady in
-    let if3 = c.if-o-h-2 in
-    let kind = eq-eqb _ _ if1.false in
-    let steady = (sym is-steady.ensures ∙ if2.false) in
-    let stamp = ap not (eq-eqb _ _ if3.false) in
+    let kind = eq-eqb _ _ c.if-o-h.false in
+    let steady = (sym c.is_steady.ensures ∙ c.if-not-is_steady.false) in
+    let stamp = ap not (eq-eqb _ _ c.if-o-h-2.false) in
     and_go _ _ kind
     (and_go _ _ steady (or_go _ _ stamp (and_go _ _ (eq-eqb _ _ c.if-o-h-3.false) c.is_same_place.ensures)))
-    ∙ sym (like_tests a.h a.o)
+    ∙ sym (like_tests c.args.h c.args.o)

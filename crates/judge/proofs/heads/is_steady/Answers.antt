@@ -7,22 +7,15 @@ use Rattle.judge.proofs.heads.is_steady.Goals as goal
 
 pub returns-then-o-ne2 : goal.returns-then-o-ne2
 returns-then-o-ne2 c =
-    let a = c.args in
     or_stop _ _ (ap not (ne_eqb _ _ c.if-o-ne2.true))
-    ∙ sym (steady_tests a.h a.o)
+    ∙ sym (steady_tests c.args.h c.args.o)
 
 pub returns-then-not-is_same_place : goal.returns-then-not-is_same_place
 returns-then-not-is_same_place c =
-    let a = c.args in
-    let if1 = c.if-o-ne2 in
-    or_go _ _ (ap not (eq-eqb _ _ if1.false)) (and_stop _ _ (sym c.is_same_place.ensures ∙ c.if-not-is_same_place.true))
-    ∙ sym (steady_tests a.h a.o)
+    or_go _ _ (ap not (eq-eqb _ _ c.if-o-ne2.false)) (and_stop _ _ (sym c.is_same_place.ensures ∙ c.if-not-is_same_place.true))
+    ∙ sym (steady_tests c.args.h c.args.o)
 
 pub returns : goal.returns
 returns c =
-    let a = c.args in
-    let if1 = c.if-o-ne2 in
-    let is-same-place = c.is_same_place in
-    let if2 = c.if-not-is_same_place in
-    or_go _ _ (ap not (eq-eqb _ _ if1.false)) (and_go _ _ (sym is-same-place.ensures ∙ if2.false) refl)
-    ∙ sym (steady_tests a.h a.o)
+    or_go _ _ (ap not (eq-eqb _ _ c.if-o-ne2.false)) (and_go _ _ (sym c.is_same_place.ensures ∙ c.if-not-is_same_place.false) refl)
+    ∙ sym (steady_tests c.args.h c.args.o)

@@ -10,29 +10,20 @@ use Rattle.judge.proofs.joins.above_agree.Goals as goal
 
 pub loop-j-init : goal.loop-j-init
 loop-j-init c =
-    let pre = c.requires in
-    (omega (arith, pre), refl)
+    (omega (arith, c.requires), refl)
 
 pub returns-then-not-made_agrees : goal.returns-then-not-made_agrees
 returns-then-not-made_agrees c =
-    let a = c.args in
-    let loop = c.loop-j in
-    let loop-test = c.loop-j-test in
-    let read = c.read in
     let here =
-    c.made_agrees.ensures ∙ ap (made_agrees (table_of a.t.now)) read.ensures in
-    and_stop _ _ (sym here ∙ c.if-not-made_agrees.true) ∙ sym (loop.invariant.1 ∙ slots_step _ _ _ loop-test.true)
+    c.made_agrees.ensures ∙ ap (made_agrees (table_of c.args.t.now)) c.read.ensures in
+    and_stop _ _ (sym here ∙ c.if-not-made_agrees.true) ∙ sym (c.loop-j.invariant.1 ∙ slots_step _ _ _ c.loop-j-test.true)
 
 pub loop-j-preserved : goal.loop-j-preserved
 loop-j-preserved c =
-    let a = c.args in
-    let loop = c.loop-j in
-    let loop-test = c.loop-j-test in
-    let read = c.read in
     let here =
-    c.made_agrees.ensures ∙ ap (made_agrees (table_of a.t.now)) read.ensures in (
-      omega (arith, loop-test.true),
-      loop.invariant.1 ∙ slots_step _ _ _ loop-test.true ∙ sym (and_go _ _ (sym here ∙ c.if-not-made_agrees.false) refl),
+    c.made_agrees.ensures ∙ ap (made_agrees (table_of c.args.t.now)) c.read.ensures in (
+      omega (arith, c.loop-j-test.true),
+      c.loop-j.invariant.1 ∙ slots_step _ _ _ c.loop-j-test.true ∙ sym (and_go _ _ (sym here ∙ c.if-not-made_agrees.false) refl),
     )
 
 pub returns : goal.returns

@@ -10,11 +10,8 @@ join-outcome-requires c = c.requires
 
 pub returns-in_default : goal.returns-in_default
 returns-in_default c =
-    let a = c.args in
-    join_even c.join-outcome.result (odd_join a.x (table_of a.t.now)) c.join-outcome.ensures.2 c.in_default.not-AtOdds
+    join_even c.join-outcome.result (odd_join c.args.x (table_of c.args.t.now)) c.join-outcome.ensures.2 c.in_default.not-AtOdds
 
 pub returns : goal.returns
 returns c =
-    let a = c.args in
-    let join = c.join-outcome in
-    join_odd join.result (odd_join a.x (table_of a.t.now)) join.ensures.2 c.in-AtOdds.is
+    join_odd c.join-outcome.result (odd_join c.args.x (table_of c.args.t.now)) c.join-outcome.ensures.2 c.in-AtOdds.is

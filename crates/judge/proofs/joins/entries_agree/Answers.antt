@@ -16,26 +16,18 @@ loop-j-init c = (omega arith, simp sub-zero)
 
 pub returns-then-not-agrees : goal.returns-then-not-agrees
 returns-then-not-agrees c =
-    let a = c.args in
-    let loop = c.loop-j in
-    let loop-test = c.loop-j-test in
-    let read = c.read-entry in
     let here =
     c.agrees.ensures
-    ∙ ap (λ (e : Entry). not (odd_join (listed_in a.d e) (table_of a.t.now))) read.ensures in
-    and_stop _ _ (sym here ∙ c.if-not-agrees.true) ∙ sym (loop.invariant.1 ∙ slots_step _ _ _ loop-test.true)
+    ∙ ap (λ (e : Entry). not (odd_join (listed_in c.args.d e) (table_of c.args.t.now))) c.read-entry.ensures in
+    and_stop _ _ (sym here ∙ c.if-not-agrees.true) ∙ sym (c.loop-j.invariant.1 ∙ slots_step _ _ _ c.loop-j-test.true)
 
 pub loop-j-preserved : goal.loop-j-preserved
 loop-j-preserved c =
-    let a = c.args in
-    let loop = c.loop-j in
-    let loop-test = c.loop-j-test in
-    let read = c.read-entry in
     let here =
     c.agrees.ensures
-    ∙ ap (λ (e : Entry). not (odd_join (listed_in a.d e) (table_of a.t.now))) read.ensures in (
-      omega (arith, loop-test.true),
-      loop.invariant.1 ∙ slots_step _ _ _ loop-test.true ∙ sym (and_go _ _ (sym here ∙ c.if-not-agrees.false) refl),
+    ∙ ap (λ (e : Entry). not (odd_join (listed_in c.args.d e) (table_of c.args.t.now))) c.read-entry.ensures in (
+      omega (arith, c.loop-j-test.true),
+      c.loop-j.invariant.1 ∙ slots_step _ _ _ c.loop-j-test.true ∙ sym (and_go _ _ (sym here ∙ c.if-not-agrees.false) refl),
     )
 
 pub returns : goal.returns

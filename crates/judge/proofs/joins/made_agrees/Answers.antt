@@ -12,17 +12,13 @@ replica-found-requires c = (c.requires.0, omega (arith, c.requires.1, few_replic
 pub returns-in_default : goal.returns-in_default
 returns-in_default c =
     let a = c.args in
-    let pre = c.requires in
-    let replica = c.replica-found in
     let f =
-    found_head a.t.now a.m a.h.id _ pre.1 (sym replica.ensures ∙ c.in_default.is) in
+    found_head a.t.now a.m a.h.id _ c.requires.1 (sym c.replica-found.ensures ∙ c.in_default.is) in
     made_held (table_of a.t.now) a.h _ f.1
 
 pub returns : goal.returns
 returns c =
     let a = c.args in
-    let pre = c.requires in
-    let replica = c.replica-found in
     let none =
-    not_found a.t.now a.m a.h.id pre.1 (sym replica.ensures ∙ c.in-Nothing.is) in
+    not_found a.t.now a.m a.h.id c.requires.1 (sym c.replica-found.ensures ∙ c.in-Nothing.is) in
     made_absent (table_of a.t.now) a.h _ _ none c.place_entry.ensures c.agrees.ensures

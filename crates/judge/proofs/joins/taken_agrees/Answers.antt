@@ -11,34 +11,25 @@ use Rattle.judge.proofs.joins.taken_agrees.Goals as goal
 pub returns-then-not-agrees : goal.returns-then-not-agrees
 returns-then-not-agrees c =
     let a = c.args in
-    let place-entry = c.place_entry in
     let place =
-    c.agrees.ensures ∙ ap (λ (x : Listed). not (odd_join x (table_of a.t.now))) place-entry.ensures in
+    c.agrees.ensures ∙ ap (λ (x : Listed). not (odd_join x (table_of a.t.now))) c.place_entry.ensures in
     and_stop _ _ (sym place ∙ c.if-not-agrees.true)
     ∙ sym (set_tests (table_of a.t.now) a.h a.old)
 
 pub returns-then-is_same_place : goal.returns-then-is_same_place
 returns-then-is_same_place c =
     let a = c.args in
-    let place-entry = c.place_entry in
-    let agrees = c.agrees in
-    let if1 = c.if-not-agrees in
     let place =
-    agrees.ensures ∙ ap (λ (x : Listed). not (odd_join x (table_of a.t.now))) place-entry.ensures in
-    and_go _ _ (sym place ∙ if1.false) (or_stop _ _ (sym c.is_same_place.ensures ∙ c.if-is_same_place.true))
+    c.agrees.ensures ∙ ap (λ (x : Listed). not (odd_join x (table_of a.t.now))) c.place_entry.ensures in
+    and_go _ _ (sym place ∙ c.if-not-agrees.false) (or_stop _ _ (sym c.is_same_place.ensures ∙ c.if-is_same_place.true))
     ∙ sym (set_tests (table_of a.t.now) a.h a.old)
 
 pub returns : goal.returns
 returns c =
     let a = c.args in
-    let place-entry = c.place_entry in
-    let agrees = c.agrees in
-    let if1 = c.if-not-agrees in
-    let is-same-place = c.is_same_place in
-    let if2 = c.if-is_same_place in
     let place =
-    agrees.ensures ∙ ap (λ (x : Listed). not (odd_join x (table_of a.t.now))) place-entry.ensures in
+    c.agrees.ensures ∙ ap (λ (x : Listed). not (odd_join x (table_of a.t.now))) c.place_entry.ensures in
     let struck =
     c.agrees-2.ensures ∙ ap (λ (x : Listed). not (odd_join x (table_of a.t.now))) c.strike.ensures in
-    and_go _ _ (sym place ∙ if1.false) (or_go _ _ (sym is-same-place.ensures ∙ if2.false) struck)
+    and_go _ _ (sym place ∙ c.if-not-agrees.false) (or_go _ _ (sym c.is_same_place.ensures ∙ c.if-is_same_place.false) struck)
     ∙ sym (set_tests (table_of a.t.now) a.h a.old)

@@ -14,23 +14,19 @@ loop-i-init c =
 
 pub overflow_mul-n : goal.overflow_mul-n
 overflow_mul-n c =
-    let pre = c.requires in
-    omega (arith, c.loop-i-test.true, pre.1, c.shared_slice_known-1.given 0)
+    omega (arith, c.loop-i-test.true, c.requires.1, c.shared_slice_known-1.given 0)
 
 pub overflow_add-n : goal.overflow_add-n
 overflow_add-n c =
-    let pre = c.requires in
-    omega (arith, c.loop-i-test.true, pre.1, c.shared_slice_known-1.given 0)
+    omega (arith, c.loop-i-test.true, c.requires.1, c.shared_slice_known-1.given 0)
 
 pub overflow_mul-i : goal.overflow_mul-i
 overflow_mul-i c =
-    let pre = c.requires in
-    omega (arith, c.loop-i-test.true, pre.1, c.shared_slice_known-1.given 0)
+    omega (arith, c.loop-i-test.true, c.requires.1, c.shared_slice_known-1.given 0)
 
 pub overflow_add-n-in-loop-i : goal.overflow_add-n-in-loop-i
 overflow_add-n-in-loop-i c =
-    let pre = c.requires in
-    omega (arith, c.loop-i-test.true, pre.1, c.shared_slice_known-1.given 0)
+    omega (arith, c.loop-i-test.true, c.requires.1, c.shared_slice_known-1.given 0)
 
 pub read-requires : goal.read-requires
 read-requires c = omega (arith, c.loop-i-test.true, c.requires.1)
@@ -38,19 +34,16 @@ read-requires c = omega (arith, c.loop-i-test.true, c.requires.1)
 pub loop-i-preserved : goal.loop-i-preserved
 loop-i-preserved c =
     let args = c.args in
-    let pre = c.requires in
     let loop = c.loop-i in
-    let loop-test = c.loop-i-test in
     let stamp = ap (λ (z : Entry). z.stamp) c.read.ensures
-    ∙ ap (λ (m : ℕ). (entry_at args.message.now (16 + 40 * m + 32 * loop.i)).stamp) pre.0 in (
-      omega (arith, loop-test.true),
+    ∙ ap (λ (m : ℕ). (entry_at args.message.now (16 + 40 * m + 32 * loop.i)).stamp) c.requires.0 in (
+      omega (arith, c.loop-i-test.true),
       high_next (entry_stamp args.message.now) args.k loop.i loop.c _
-          c.later-c.result loop-test.true stamp c.later-c.ensures ∙ loop.invariant.1,
+          c.later-c.result c.loop-i-test.true stamp c.later-c.ensures ∙ loop.invariant.1,
     )
 
 pub returns : goal.returns
 returns c =
-    let args = c.args in
     let loop = c.loop-i in
-    sym (high_end (entry_stamp args.message.now) args.k loop.i loop.c
+    sym (high_end (entry_stamp c.args.message.now) c.args.k loop.i loop.c
     (omega (arith, c.loop-i-test.false))) ∙ loop.invariant.1

@@ -12,31 +12,26 @@ loop-i-init c =
 
 pub overflow_mul-i : goal.overflow_mul-i
 overflow_mul-i c =
-    let pre = c.requires in
-    omega (arith, c.loop-i-test.true, pre, c.shared_slice_known-1.given 0)
+    omega (arith, c.loop-i-test.true, c.requires, c.shared_slice_known-1.given 0)
 
 pub overflow_add-i : goal.overflow_add-i
 overflow_add-i c =
-    let pre = c.requires in
-    omega (arith, c.loop-i-test.true, pre, c.shared_slice_known-1.given 0)
+    omega (arith, c.loop-i-test.true, c.requires, c.shared_slice_known-1.given 0)
 
 pub read-requires : goal.read-requires
 read-requires c = omega (arith, c.loop-i-test.true, c.requires)
 
 pub loop-i-preserved : goal.loop-i-preserved
 loop-i-preserved c =
-    let args = c.args in
     let loop = c.loop-i in
-    let loop-test = c.loop-i-test in
     let stamp = ap (λ (z : Head). z.stamp) c.read.ensures in (
-      omega (arith, loop-test.true),
-      high_next (head_stamp args.message.now) args.n loop.i loop.c _
-          c.later-c.result loop-test.true stamp c.later-c.ensures ∙ loop.invariant.1,
+      omega (arith, c.loop-i-test.true),
+      high_next (head_stamp c.args.message.now) c.args.n loop.i loop.c _
+          c.later-c.result c.loop-i-test.true stamp c.later-c.ensures ∙ loop.invariant.1,
     )
 
 pub returns : goal.returns
 returns c =
-    let args = c.args in
     let loop = c.loop-i in
-    sym (high_end (head_stamp args.message.now) args.n loop.i loop.c
+    sym (high_end (head_stamp c.args.message.now) c.args.n loop.i loop.c
     (omega (arith, c.loop-i-test.false))) ∙ loop.invariant.1

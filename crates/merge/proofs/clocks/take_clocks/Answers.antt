@@ -18,43 +18,30 @@ read-old-requires c = omega (arith, c.requires.0.size)
 
 pub of_heads-seen-requires : goal.of_heads-seen-requires
 of_heads-seen-requires c =
-    let pre = c.requires in
-    let read = c.read-header in
-    let p = read.ensures in
-    let n = ap (λ (z : PushHeader). z.heads) p in
-    let k = ap (λ (z : PushHeader). z.entries) p in
-    omega (arith, n, pre.1.size)
+    let n = ap (λ (z : PushHeader). z.heads) c.read-header.ensures in
+    let k = ap (λ (z : PushHeader). z.entries) c.read-header.ensures in
+    omega (arith, n, c.requires.1.size)
 
 pub of_entries-all-requires : goal.of_entries-all-requires
 of_entries-all-requires c =
-    let pre = c.requires in
-    let read = c.read-header in
-    let p = read.ensures in
-    let n = ap (λ (z : PushHeader). z.heads) p in
-    let k = ap (λ (z : PushHeader). z.entries) p in
-    (n, omega (arith, n, k, pre.1.size))
+    let n = ap (λ (z : PushHeader). z.heads) c.read-header.ensures in
+    let k = ap (λ (z : PushHeader). z.entries) c.read-header.ensures in
+    (n, omega (arith, n, k, c.requires.1.size))
 
 pub write-requires : goal.write-requires
 write-requires c =
-    let pre = c.requires in
-    omega (arith, pre.0.size)
+    omega (arith, c.requires.0.size)
 
 pub returns : goal.returns
 returns c =
-    let args = c.args in
-    let pre = c.requires in
-    let slice-known = c.slice_known-1 in
-    let read = c.read-header in
     let read2 = c.read-old in
     let of-heads = c.of_heads-seen in
-    let of-entries = c.of_entries-all in
-    let p = read.ensures in
-    let n = ap (λ (z : PushHeader). z.heads) p in
-    let k = ap (λ (z : PushHeader). z.entries) p in
-    let m = args.message.now in
+    let n = ap (λ (z : PushHeader). z.heads) c.read-header.ensures in
+    let k = ap (λ (z : PushHeader). z.entries) c.read-header.ensures in
+    let m = c.args.message.now in
     let seen = of-heads.ensures ∙ ap (λ (i : ℕ). highest read2.result.highest (slots_from (head_stamp m) 0 i))
     n in
-    let all = of-entries.ensures ∙ ap (λ (i : ℕ). highest of-heads.result (slots_from (entry_stamp m) 0 i)) k
-    ∙ high_all m read2.result.highest of-heads.result pre.1.one seen in
-    moved (clocks_taken m pre.0 (λ i. (slice-known.given i).fits) read2.result of-entries.result
-    (read2.ensures ∙ header_read args.t.now) all (search rules)) c.write.ensures
+    let all = c.of_entries-all.ensures ∙ ap (λ (i : ℕ). highest of-heads.result (slots_from (entry_stamp m) 0 i)) k
+    ∙ high_all m read2.result.highest of-heads.result c.requires.1.one seen in
+    moved (clocks_taken m c.requires.0 (λ i. (c.slice_known-1.given i).fits) read2.result c.of_entries-all.result
+    (read2.ensures ∙ header_read c.args.t.now) all (search rules)) c.write.ensures

@@ -15,32 +15,27 @@ join_entries-requires c =
 pub returns-then-not-join_entries : goal.returns-then-not-join_entries
 returns-then-not-join_entries c =
     let args = c.args in
-    let join-entries = c.join_entries in
     both_full (joined_in (message_of args.message.now))
     (set_in (table_of args.old.now) (message_of args.message.now)) args.t.now
-    (made_as c.if-not-join_entries.true join-entries.ensures)
+    (made_as c.if-not-join_entries.true c.join_entries.ensures)
 
 pub set_in-requires : goal.set_in-requires
 set_in-requires c =
     let args = c.args in
-    let pre = c.requires in
-    let join-entries = c.join_entries in
-    let if1 = c.if-not-join_entries in (
+    let pre = c.requires in (
       both_works (joined_in (message_of args.message.now))
           (set_in (table_of args.old.now) (message_of args.message.now)) args.t.now
-          (made_as if1.false join-entries.ensures) pre.0 pre.3,
+          (made_as c.if-not-join_entries.false c.join_entries.ensures) pre.0 pre.3,
       pre.1,
       pre.2,
       both_held (joined_in (message_of args.message.now))
           (set_in (table_of args.old.now) (message_of args.message.now)) args.t.now
-          (made_as if1.false join-entries.ensures) pre.3,
+          (made_as c.if-not-join_entries.false c.join_entries.ensures) pre.3,
     )
 
 pub returns : goal.returns
 returns c =
     let args = c.args in
-    let join-entries = c.join_entries in
-    let if1 = c.if-not-join_entries in
     both_then (joined_in (message_of args.message.now))
     (set_in (table_of args.old.now) (message_of args.message.now)) args.t.now
-    (made_as if1.false join-entries.ensures) c.set_in.ensures
+    (made_as c.if-not-join_entries.false c.join_entries.ensures) c.set_in.ensures

@@ -18,40 +18,29 @@ read-header-requires c = omega (arith, c.requires.1.size)
 
 pub read-directory-requires : goal.read-directory-requires
 read-directory-requires c =
-    let pre = c.requires in
-    omega (arith, pre.1.size, pre.1.one)
+    omega (arith, c.requires.1.size, c.requires.1.one)
 
 pub loop-i-init : goal.loop-i-init
-loop-i-init c =
-    let args = c.args in
-    let pre = c.requires in
-    let read = c.read-header in
-    let p = read.ensures in (
-      omega arith,
-      ap (λ (z : PushHeader). z.entries) p,
-      ap (λ (z : PushHeader). 16 + 40 * z.heads) p,
-      ap (λ (z : Head). z.id) c.read-directory.ensures,
-      entering_start args.message.now args.t.now pre.0 pre.2,
-      refl,
-    )
+loop-i-init c = (
+  omega arith,
+  ap (λ (z : PushHeader). z.entries) c.read-header.ensures,
+  ap (λ (z : PushHeader). 16 + 40 * z.heads) c.read-header.ensures,
+  ap (λ (z : Head). z.id) c.read-directory.ensures,
+  entering_start c.args.message.now c.args.t.now c.requires.0 c.requires.2,
+  refl,
+)
 
 pub overflow_mul-i : goal.overflow_mul-i
 overflow_mul-i c =
-    let pre = c.requires in
-    let loop = c.loop-i in
-    omega (arith, c.loop-i-test.true, loop.invariant.1, loop.invariant.2, pre.1.size)
+    omega (arith, c.loop-i-test.true, c.loop-i.invariant.1, c.loop-i.invariant.2, c.requires.1.size)
 
 pub overflow_add-base-in-loop-i : goal.overflow_add-base-in-loop-i
 overflow_add-base-in-loop-i c =
-    let pre = c.requires in
-    let loop = c.loop-i in
-    omega (arith, c.loop-i-test.true, loop.invariant.1, loop.invariant.2, pre.1.size)
+    omega (arith, c.loop-i-test.true, c.loop-i.invariant.1, c.loop-i.invariant.2, c.requires.1.size)
 
 pub read-entry-requires : goal.read-entry-requires
 read-entry-requires c =
-    let pre = c.requires in
-    let loop = c.loop-i in
-    omega (arith, c.loop-i-test.true, loop.invariant.1, loop.invariant.2, pre.1.size)
+    omega (arith, c.loop-i-test.true, c.loop-i.invariant.1, c.loop-i.invariant.2, c.requires.1.size)
 
 pub set-requires : goal.set-requires
 set-requires c = c.loop-i.invariant.4.works.stands
@@ -60,34 +49,27 @@ pub returns-then-not-set : goal.returns-then-not-set
 returns-then-not-set c =
     let args = c.args in
     let loop = c.loop-i in
-    let loop-test = c.loop-i-test in
-    let read3 = c.read-entry in
-    let set = c.set in
     turn_full (listed_at args.message.now) (entries_in args.message.now)
     (join_all (joined_in (message_of args.message.now)) (table_of args.t.now))
-    loop.i loop.invariant.4 (omega (arith, loop-test.true, loop.invariant.1)) _
-    (same_listed args.message.now loop.i loop.invariant.2 loop.invariant.3 read3.ensures) _ set.ensures.0
-    set.ensures.1 c.if-not-set.true
+    loop.i loop.invariant.4 (omega (arith, c.loop-i-test.true, loop.invariant.1)) _
+    (same_listed args.message.now loop.i loop.invariant.2 loop.invariant.3 c.read-entry.ensures) _ c.set.ensures.0
+    c.set.ensures.1 c.if-not-set.true
 
 pub loop-i-preserved : goal.loop-i-preserved
 loop-i-preserved c =
     let args = c.args in
-    let pre = c.requires in
     let loop = c.loop-i in
-    let loop-test = c.loop-i-test in
-    let read3 = c.read-entry in
-    let set = c.set in
     let next = turn_next (listed_at args.message.now) (entries_in args.message.now)
     (join_all (joined_in (message_of args.message.now)) (table_of args.t.now))
-    loop.i loop.invariant.4 (omega (arith, loop-test.true, loop.invariant.1)) _
-    (same_listed args.message.now loop.i loop.invariant.2 loop.invariant.3 read3.ensures) _ set.ensures.0
-    set.ensures.1 c.if-not-set.false in (
-      omega (arith, loop-test.true),
+    loop.i loop.invariant.4 (omega (arith, c.loop-i-test.true, loop.invariant.1)) _
+    (same_listed args.message.now loop.i loop.invariant.2 loop.invariant.3 c.read-entry.ensures) _ c.set.ensures.0
+    c.set.ensures.1 c.if-not-set.false in (
+      omega (arith, c.loop-i-test.true),
       loop.invariant.1,
       loop.invariant.2,
       loop.invariant.3,
       next,
-      omega (arith, next.works.stands.size, pre.0.stands.size),
+      omega (arith, next.works.stands.size, c.requires.0.stands.size),
     )
 
 pub returns : goal.returns

@@ -20,49 +20,36 @@ loop-j-init c =
 
 pub overflow_mul-j : goal.overflow_mul-j
 overflow_mul-j c =
-    let pre = c.requires in
-    omega (arith, c.loop-j-test.true, c.loop-j.invariant.high, pre.2.size)
+    omega (arith, c.loop-j-test.true, c.loop-j.invariant.high, c.requires.2.size)
 
 pub overflow_add-j : goal.overflow_add-j
 overflow_add-j c =
-    let pre = c.requires in
-    omega (arith, c.loop-j-test.true, c.loop-j.invariant.high, pre.2.size)
+    omega (arith, c.loop-j-test.true, c.loop-j.invariant.high, c.requires.2.size)
 
 pub read-h-requires : goal.read-h-requires
 read-h-requires c =
-    let pre = c.requires in
-    omega (arith, c.loop-j-test.true, c.loop-j.invariant.high, pre.2.size)
+    omega (arith, c.loop-j-test.true, c.loop-j.invariant.high, c.requires.2.size)
 
 pub set_if_made-requires : goal.set_if_made-requires
 set_if_made-requires c =
-    let pre = c.requires in
-    let args = c.args in
-    let loop = c.loop-j in (
-      loop.invariant.works,
-      pre.1,
+    let args = c.args in (
+      c.loop-j.invariant.works,
+      c.requires.1,
       setting_held_now args.message.now (table_of args.old.now)
-          (table_of args.t.now) _ loop.invariant c.loop-j-test.true _ c.read-h.ensures,
+          (table_of args.t.now) _ c.loop-j.invariant c.loop-j-test.true _ c.read-h.ensures,
     )
 
 pub returns-then-not-set_if_made : goal.returns-then-not-set_if_made
 returns-then-not-set_if_made c =
     let args = c.args in
-    let loop = c.loop-j in
-    let loop-test = c.loop-j-test in
-    let read2 = c.read-h in
-    let set-if-made = c.set_if_made in
-    setting_full args.message.now (table_of args.old.now) (table_of args.t.now) _ loop.invariant
-    loop-test.true _ read2.ensures _ set-if-made.ensures c.if-not-set_if_made.true
+    setting_full args.message.now (table_of args.old.now) (table_of args.t.now) _ c.loop-j.invariant
+    c.loop-j-test.true _ c.read-h.ensures _ c.set_if_made.ensures c.if-not-set_if_made.true
 
 pub loop-j-preserved : goal.loop-j-preserved
 loop-j-preserved c =
     let args = c.args in
-    let loop = c.loop-j in
-    let loop-test = c.loop-j-test in
-    let read2 = c.read-h in
-    let set-if-made = c.set_if_made in
-    setting_turn args.message.now (table_of args.old.now) (table_of args.t.now) _ loop.invariant
-    loop-test.true _ read2.ensures _ set-if-made.ensures c.if-not-set_if_made.false
+    setting_turn args.message.now (table_of args.old.now) (table_of args.t.now) _ c.loop-j.invariant
+    c.loop-j-test.true _ c.read-h.ensures _ c.set_if_made.ensures c.if-not-set_if_made.false
 
 pub returns : goal.returns
 returns c =

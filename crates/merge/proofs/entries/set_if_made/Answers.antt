@@ -14,26 +14,18 @@ replica-found-requires c = (c.requires.1, c.replicas_used.ensures.1)
 pub returns-in_default : goal.returns-in_default
 returns-in_default c =
     let args = c.args in
-    let pre = c.requires in
-    let used = c.replicas_used in
-    let f = found_head args.old.now _ args.h.id c.in_default.field-0 used.ensures.0
+    let f = found_head args.old.now _ args.h.id c.in_default.field-0 c.replicas_used.ensures.0
     (sym c.replica-found.ensures ∙ c.in_default.is) in
-    setting_held (table_of args.old.now) args.h _ pre.0 f.1
+    setting_held (table_of args.old.now) args.h _ c.requires.0 f.1
 
 pub set-requires : goal.set-requires
 set-requires c =
-    let pre = c.requires in
-    pre.0.stands
+    c.requires.0.stands
 
 pub returns : goal.returns
 returns c =
     let args = c.args in
-    let pre = c.requires in
-    let used = c.replicas_used in
-    let replica = c.replica-found in
-    let place-entry = c.place_entry in
-    let set = c.set in
-    setting_made (table_of args.old.now) args.h _ pre.0 pre.2
-    (not_found args.old.now _ args.h.id used.ensures.0
-    (sym replica.ensures ∙ c.in-Nothing.is))
-    place-entry.ensures set.ensures.0 set.ensures.1
+    setting_made (table_of args.old.now) args.h _ c.requires.0 c.requires.2
+    (not_found args.old.now _ args.h.id c.replicas_used.ensures.0
+    (sym c.replica-found.ensures ∙ c.in-Nothing.is))
+    c.place_entry.ensures c.set.ensures.0 c.set.ensures.1

@@ -14,84 +14,55 @@ replica-found-requires c = (c.requires.1, c.replicas_used.ensures.1)
 
 pub set-requires : goal.set-requires
 set-requires c =
-    let pre = c.requires in
-    pre.0.stands
+    c.requires.0.stands
 
 pub returns-in_default : goal.returns-in_default
 returns-in_default c =
     let args = c.args in
-    let pre = c.requires in
-    let used = c.replicas_used in
-    let replica = c.replica-found in
-    let place-entry = c.place_entry in
-    let set = c.set in
-    first_made (table_of args.old.now) args.h pre.0 pre.2 _
-    (not_found args.old.now _ args.h.id used.ensures.0
-    (sym replica.ensures ∙ c.in_default.is))
-    place-entry.ensures set.ensures.0 set.ensures.1
+    first_made (table_of args.old.now) args.h c.requires.0 c.requires.2 _
+    (not_found args.old.now _ args.h.id c.replicas_used.ensures.0
+    (sym c.replica-found.ensures ∙ c.in_default.is))
+    c.place_entry.ensures c.set.ensures.0 c.set.ensures.1
 
 pub overflow_mul-i : goal.overflow_mul-i
 overflow_mul-i c =
-    let args = c.args in
-    let used = c.replicas_used in
-    let replica = c.replica-found in
-    let f = found_head args.old.now _ args.h.id c.in-At.i used.ensures.0
-    (sym replica.ensures ∙ c.in-At.is) in
-    omega (arith, f.0, used.ensures.1)
+    let f = found_head c.args.old.now _ c.args.h.id c.in-At.i c.replicas_used.ensures.0
+    (sym c.replica-found.ensures ∙ c.in-At.is) in
+    omega (arith, f.0, c.replicas_used.ensures.1)
 
 pub overflow_add-i : goal.overflow_add-i
 overflow_add-i c =
-    let args = c.args in
-    let used = c.replicas_used in
-    let replica = c.replica-found in
-    let f = found_head args.old.now _ args.h.id c.in-At.i used.ensures.0
-    (sym replica.ensures ∙ c.in-At.is) in
-    omega (arith, f.0, used.ensures.1)
+    let f = found_head c.args.old.now _ c.args.h.id c.in-At.i c.replicas_used.ensures.0
+    (sym c.replica-found.ensures ∙ c.in-At.is) in
+    omega (arith, f.0, c.replicas_used.ensures.1)
 
 pub read-was-requires : goal.read-was-requires
 read-was-requires c =
-    let args = c.args in
-    let pre = c.requires in
-    let used = c.replicas_used in
-    let replica = c.replica-found in
-    let f = found_head args.old.now _ args.h.id c.in-At.i used.ensures.0
-    (sym replica.ensures ∙ c.in-At.is) in
-    omega (arith, f.0, used.ensures.1, pre.1)
+    let f = found_head c.args.old.now _ c.args.h.id c.in-At.i c.replicas_used.ensures.0
+    (sym c.replica-found.ensures ∙ c.in-At.is) in
+    omega (arith, f.0, c.replicas_used.ensures.1, c.requires.1)
 
 pub set_places-requires : goal.set_places-requires
 set_places-requires c =
     let args = c.args in
-    let pre = c.requires in
-    let used = c.replicas_used in
-    let replica = c.replica-found in
-    let read = c.read-was in
-    let f = found_head args.old.now _ args.h.id c.in-At.i used.ensures.0
-    (sym replica.ensures ∙ c.in-At.is) in
-    let n = f.1 ∙ ap some (sym read.ensures) in
-    first_places (table_of args.old.now) args.h pre.0 pre.2 _ n c.if-was-h.true
+    let f = found_head args.old.now _ args.h.id c.in-At.i c.replicas_used.ensures.0
+    (sym c.replica-found.ensures ∙ c.in-At.is) in
+    let n = f.1 ∙ ap some (sym c.read-was.ensures) in
+    first_places (table_of args.old.now) args.h c.requires.0 c.requires.2 _ n c.if-was-h.true
 
 pub returns-then-was-h : goal.returns-then-was-h
 returns-then-was-h c =
     let args = c.args in
-    let pre = c.requires in
-    let used = c.replicas_used in
-    let replica = c.replica-found in
-    let read = c.read-was in
-    let if1 = c.if-was-h in
-    let f = found_head args.old.now _ args.h.id c.in-At.i used.ensures.0
-    (sym replica.ensures ∙ c.in-At.is) in
-    let n = f.1 ∙ ap some (sym read.ensures) in
-    first_taken (table_of args.old.now) args.h pre.0 pre.2 _ n if1.true
+    let f = found_head args.old.now _ args.h.id c.in-At.i c.replicas_used.ensures.0
+    (sym c.replica-found.ensures ∙ c.in-At.is) in
+    let n = f.1 ∙ ap some (sym c.read-was.ensures) in
+    first_taken (table_of args.old.now) args.h c.requires.0 c.requires.2 _ n c.if-was-h.true
     c.set_places.ensures
 
 pub returns : goal.returns
 returns c =
     let args = c.args in
-    let pre = c.requires in
-    let used = c.replicas_used in
-    let replica = c.replica-found in
-    let read = c.read-was in
-    let f = found_head args.old.now _ args.h.id c.in-At.i used.ensures.0
-    (sym replica.ensures ∙ c.in-At.is) in
-    let n = f.1 ∙ ap some (sym read.ensures) in
-    first_kept (table_of args.old.now) args.h pre.0 pre.2 _ n (omega (arith, c.if-was-h.false))
+    let f = found_head args.old.now _ args.h.id c.in-At.i c.replicas_used.ensures.0
+    (sym c.replica-found.ensures ∙ c.in-At.is) in
+    let n = f.1 ∙ ap some (sym c.read-was.ensures) in
+    first_kept (table_of args.old.now) args.h c.requires.0 c.requires.2 _ n (omega (arith, c.if-was-h.false))

@@ -16,38 +16,31 @@ set_above-requires c =
 pub returns-then-not-set_above : goal.returns-then-not-set_above
 returns-then-not-set_above c =
     let args = c.args in
-    let set-above = c.set_above in
     both_full (set_above (table_of args.old.now) (message_of args.message.now).above)
     (set_if_taken (head_of (table_of args.old.now) (message_of args.message.now).first.id)
     (message_of args.message.now).first) args.t.now
-    (made_as c.if-not-set_above.true set-above.ensures)
+    (made_as c.if-not-set_above.true c.set_above.ensures)
 
 pub read-requires : goal.read-requires
 read-requires c =
-    let pre = c.requires in
-    omega (arith, pre.2.size, pre.2.one)
+    omega (arith, c.requires.2.size, c.requires.2.one)
 
 pub set_if_taken-requires : goal.set_if_taken-requires
 set_if_taken-requires c =
     let args = c.args in
-    let pre = c.requires in
-    let set-above = c.set_above in
-    let if1 = c.if-not-set_above in (
+    let pre = c.requires in (
       both_works (set_above (table_of args.old.now) (message_of args.message.now).above)
           (set_if_taken (head_of (table_of args.old.now) (message_of args.message.now).first.id)
           (message_of args.message.now).first) args.t.now
-          (made_as if1.false set-above.ensures) pre.0 pre.3,
+          (made_as c.if-not-set_above.false c.set_above.ensures) pre.0 pre.3,
       pre.1,
       first_held args.message.now (table_of args.old.now) args.t.now
-          (made_as if1.false set-above.ensures) _ c.read.ensures pre.3,
+          (made_as c.if-not-set_above.false c.set_above.ensures) _ c.read.ensures pre.3,
     )
 
 pub returns : goal.returns
 returns c =
     let args = c.args in
-    let set-above = c.set_above in
-    let if1 = c.if-not-set_above in
-    let read = c.read in
     first_then args.message.now (table_of args.old.now) args.t.now
-    (made_as if1.false set-above.ensures) _ read.ensures
+    (made_as c.if-not-set_above.false c.set_above.ensures) _ c.read.ensures
     c.set_if_taken.ensures

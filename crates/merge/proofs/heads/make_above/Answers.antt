@@ -19,46 +19,31 @@ loop-j-init c =
 
 pub overflow_mul-j : goal.overflow_mul-j
 overflow_mul-j c =
-    let pre = c.requires in
-    omega (arith, c.loop-j-test.true, c.loop-j.invariant.high, pre.2.size)
+    omega (arith, c.loop-j-test.true, c.loop-j.invariant.high, c.requires.2.size)
 
 pub overflow_add-j : goal.overflow_add-j
 overflow_add-j c =
-    let pre = c.requires in
-    omega (arith, c.loop-j-test.true, c.loop-j.invariant.high, pre.2.size)
+    omega (arith, c.loop-j-test.true, c.loop-j.invariant.high, c.requires.2.size)
 
 pub read-h-requires : goal.read-h-requires
 read-h-requires c =
-    let pre = c.requires in
-    omega (arith, c.loop-j-test.true, c.loop-j.invariant.high, pre.2.size)
+    omega (arith, c.loop-j-test.true, c.loop-j.invariant.high, c.requires.2.size)
 
 pub make_missing-requires : goal.make_missing-requires
 make_missing-requires c =
-    let loop = c.loop-j in
-    (loop.invariant.works, loop.invariant.also.1)
+    (c.loop-j.invariant.works, c.loop-j.invariant.also.1)
 
 pub returns-then-not-make_missing : goal.returns-then-not-make_missing
 returns-then-not-make_missing c =
-    let args = c.args in
-    let loop = c.loop-j in
-    let loop-test = c.loop-j-test in
-    let read2 = c.read-h in
-    let make-missing = c.make_missing in
-    making_full args.message.now (table_of args.t.now) _ loop.invariant loop-test.true _ read2.ensures _
-    make-missing.ensures c.if-not-make_missing.true
+    making_full c.args.message.now (table_of c.args.t.now) _ c.loop-j.invariant c.loop-j-test.true _ c.read-h.ensures _
+    c.make_missing.ensures c.if-not-make_missing.true
 
 pub loop-j-preserved : goal.loop-j-preserved
 loop-j-preserved c =
-    let args = c.args in
-    let loop = c.loop-j in
-    let loop-test = c.loop-j-test in
-    let read2 = c.read-h in
-    let make-missing = c.make_missing in
-    making_turn args.message.now (table_of args.t.now) _ loop.invariant loop-test.true _ read2.ensures _
-    make-missing.ensures c.if-not-make_missing.false
+    making_turn c.args.message.now (table_of c.args.t.now) _ c.loop-j.invariant c.loop-j-test.true _ c.read-h.ensures _
+    c.make_missing.ensures c.if-not-make_missing.false
 
 pub returns : goal.returns
 returns c =
-    let args = c.args in
-    making_end args.message.now (table_of args.t.now) _ c.loop-j.invariant
+    making_end c.args.message.now (table_of c.args.t.now) _ c.loop-j.invariant
     (λ l. omega (arith, l, c.loop-j-test.false))

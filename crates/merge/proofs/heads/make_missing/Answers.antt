@@ -9,37 +9,27 @@ replicas_used-requires c = omega (arith, c.requires.0.stands.size)
 
 pub replica-found-requires : goal.replica-found-requires
 replica-found-requires c =
-    let pre = c.requires in
-    (omega (arith, pre.0.stands.size), c.replicas_used.ensures.1)
+    (omega (arith, c.requires.0.stands.size), c.replicas_used.ensures.1)
 
 pub returns-in_default : goal.returns-in_default
 returns-in_default c =
     let args = c.args in
-    let pre = c.requires in
-    let used = c.replicas_used in
-    let f = found_head args.t.now _ args.h.id c.in_default.field-0 used.ensures.0
+    let f = found_head args.t.now _ args.h.id c.in_default.field-0 c.replicas_used.ensures.0
     (sym c.replica-found.ensures ∙ c.in_default.is) in
-    missing_held args.h _ pre.0 f.1
+    missing_held args.h _ c.requires.0 f.1
 
 pub with_own-new-requires : goal.with_own-new-requires
 with_own-new-requires c =
-    let pre = c.requires in
-    (omega (arith, pre.0.stands.size), pre.1)
+    (omega (arith, c.requires.0.stands.size), c.requires.1)
 
 pub put-requires : goal.put-requires
 put-requires c =
-    let pre = c.requires in
-    pre.0.stands
+    c.requires.0.stands
 
 pub returns : goal.returns
 returns c =
     let args = c.args in
-    let pre = c.requires in
-    let used = c.replicas_used in
-    let replica = c.replica-found in
-    let with-own = c.with_own-new in
-    let put = c.put in
-    missing_made args.h _ pre.0
-    (not_found args.t.now _ args.h.id used.ensures.0
-    (sym replica.ensures ∙ c.in-Nothing.is))
-    with-own.ensures put.ensures.0 put.ensures.1
+    missing_made args.h _ c.requires.0
+    (not_found args.t.now _ args.h.id c.replicas_used.ensures.0
+    (sym c.replica-found.ensures ∙ c.in-Nothing.is))
+    c.with_own-new.ensures c.put.ensures.0 c.put.ensures.1

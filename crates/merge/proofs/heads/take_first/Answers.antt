@@ -13,21 +13,14 @@ read-requires c = omega (arith, c.requires.2.size, c.requires.2.one)
 
 pub merged-new-requires : goal.merged-new-requires
 merged-new-requires c =
-    let pre = c.requires in
-    (omega (arith, pre.0.stands.size), pre.1)
+    (omega (arith, c.requires.0.stands.size), c.requires.1)
 
 pub put-requires : goal.put-requires
 put-requires c =
-    let pre = c.requires in
-    pre.0.stands
+    c.requires.0.stands
 
 pub returns : goal.returns
 returns c =
-    let args = c.args in
-    let pre = c.requires in
-    let read = c.read in
-    let merged = c.merged-new in
-    let put = c.put in
-    let first = read.ensures ∙ sym (first_is args.message.now) in
-    made_is (ap (λ (h : Head). step_c h (table_of args.t.now)) first)
-    (taken_made read.result _ pre.0 merged.ensures put.ensures.0 put.ensures.1)
+    let first = c.read.ensures ∙ sym (first_is c.args.message.now) in
+    made_is (ap (λ (h : Head). step_c h (table_of c.args.t.now)) first)
+    (taken_made c.read.result _ c.requires.0 c.merged-new.ensures c.put.ensures.0 c.put.ensures.1)

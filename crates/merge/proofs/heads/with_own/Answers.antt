@@ -12,8 +12,7 @@ single-requires c =
 pub returns : goal.returns
 returns c =
     let args = c.args in
-    let get-u8 = c.get_u8-own in
-    let own = get-u8.ensures ∙ own_at args.t.now in
+    let own = c.get_u8-own.ensures ∙ own_at args.t.now in
     c.with_holders.ensures
     ∙ ap (with_holders args.h) (c.join.ensures ∙ ap (join args.h.holders)
     (c.single.ensures ∙ ap single own))

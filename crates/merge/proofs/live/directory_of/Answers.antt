@@ -7,44 +7,29 @@ use Rattle.merge.proofs.live.directory_of.Goals as goal
 
 pub returns-in_default : goal.returns-in_default
 returns-in_default c =
-    let args = c.args in
-    let used = c.replicas_used in
-    sym (ap directory_of (not_found args.t.now _ args.id used.ensures.0
+    sym (ap directory_of (not_found c.args.t.now _ c.args.id c.replicas_used.ensures.0
     (sym c.replica-found.ensures ∙ c.in_default.is)))
 
 pub overflow_mul-i : goal.overflow_mul-i
 overflow_mul-i c =
-    let args = c.args in
-    let used = c.replicas_used in
-    let replica = c.replica-found in
-    let f = found_head args.t.now _ args.id c.in-At.i used.ensures.0
-    (sym replica.ensures ∙ c.in-At.is) in
-    omega (arith, f.0, used.ensures.1)
+    let f = found_head c.args.t.now _ c.args.id c.in-At.i c.replicas_used.ensures.0
+    (sym c.replica-found.ensures ∙ c.in-At.is) in
+    omega (arith, f.0, c.replicas_used.ensures.1)
 
 pub overflow_add-i : goal.overflow_add-i
 overflow_add-i c =
-    let args = c.args in
-    let used = c.replicas_used in
-    let replica = c.replica-found in
-    let f = found_head args.t.now _ args.id c.in-At.i used.ensures.0
-    (sym replica.ensures ∙ c.in-At.is) in
-    omega (arith, f.0, used.ensures.1)
+    let f = found_head c.args.t.now _ c.args.id c.in-At.i c.replicas_used.ensures.0
+    (sym c.replica-found.ensures ∙ c.in-At.is) in
+    omega (arith, f.0, c.replicas_used.ensures.1)
 
 pub read-requires : goal.read-requires
 read-requires c =
-    let args = c.args in
-    let pre = c.requires in
-    let used = c.replicas_used in
-    let replica = c.replica-found in
-    let f = found_head args.t.now _ args.id c.in-At.i used.ensures.0
-    (sym replica.ensures ∙ c.in-At.is) in
-    omega (arith, f.0, used.ensures.1, pre)
+    let f = found_head c.args.t.now _ c.args.id c.in-At.i c.replicas_used.ensures.0
+    (sym c.replica-found.ensures ∙ c.in-At.is) in
+    omega (arith, f.0, c.replicas_used.ensures.1, c.requires)
 
 pub returns : goal.returns
 returns c =
-    let args = c.args in
-    let used = c.replicas_used in
-    let replica = c.replica-found in
-    let f = found_head args.t.now _ args.id c.in-At.i used.ensures.0
-    (sym replica.ensures ∙ c.in-At.is) in
+    let f = found_head c.args.t.now _ c.args.id c.in-At.i c.replicas_used.ensures.0
+    (sym c.replica-found.ensures ∙ c.in-At.is) in
     ap (λ (z : Head). z.directory) c.read.ensures ∙ ap directory_of (sym f.1)

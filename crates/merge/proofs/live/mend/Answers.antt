@@ -10,122 +10,80 @@ replicas_used-requires c = omega (arith, c.requires.works.stands.size)
 
 pub replica-found-requires : goal.replica-found-requires
 replica-found-requires c =
-    let pre = c.requires in
-    (omega (arith, pre.works.stands.size), c.replicas_used.ensures.1)
+    (omega (arith, c.requires.works.stands.size), c.replicas_used.ensures.1)
 
 pub returns-in_default : goal.returns-in_default
 returns-in_default c =
     let args = c.args in
-    let pre = c.requires in
-    let used = c.replicas_used in
-    mend_none args.id args.time pre
-    (not_found args.t.now _ args.id used.ensures.0
+    mend_none args.id args.time c.requires
+    (not_found args.t.now _ args.id c.replicas_used.ensures.0
     (sym c.replica-found.ensures ∙ c.in_default.is))
 
 pub overflow_mul-i : goal.overflow_mul-i
 overflow_mul-i c =
-    let args = c.args in
-    let used = c.replicas_used in
-    let replica = c.replica-found in
-    let f = found_head args.t.now _ args.id c.in-At.i used.ensures.0
-    (sym replica.ensures ∙ c.in-At.is) in
-    omega (arith, f.0, used.ensures.1)
+    let f = found_head c.args.t.now _ c.args.id c.in-At.i c.replicas_used.ensures.0
+    (sym c.replica-found.ensures ∙ c.in-At.is) in
+    omega (arith, f.0, c.replicas_used.ensures.1)
 
 pub overflow_add-i : goal.overflow_add-i
 overflow_add-i c =
-    let args = c.args in
-    let used = c.replicas_used in
-    let replica = c.replica-found in
-    let f = found_head args.t.now _ args.id c.in-At.i used.ensures.0
-    (sym replica.ensures ∙ c.in-At.is) in
-    omega (arith, f.0, used.ensures.1)
+    let f = found_head c.args.t.now _ c.args.id c.in-At.i c.replicas_used.ensures.0
+    (sym c.replica-found.ensures ∙ c.in-At.is) in
+    omega (arith, f.0, c.replicas_used.ensures.1)
 
 pub read-h-requires : goal.read-h-requires
 read-h-requires c =
-    let args = c.args in
-    let pre = c.requires in
-    let used = c.replicas_used in
-    let replica = c.replica-found in
-    let f = found_head args.t.now _ args.id c.in-At.i used.ensures.0
-    (sym replica.ensures ∙ c.in-At.is) in
-    omega (arith, f.0, used.ensures.1, pre.works.stands.size)
+    let f = found_head c.args.t.now _ c.args.id c.in-At.i c.replicas_used.ensures.0
+    (sym c.replica-found.ensures ∙ c.in-At.is) in
+    omega (arith, f.0, c.replicas_used.ensures.1, c.requires.works.stands.size)
 
 pub returns-then-h-ne1 : goal.returns-then-h-ne1
 returns-then-h-ne1 c =
     let args = c.args in
-    let pre = c.requires in
-    let used = c.replicas_used in
-    let replica = c.replica-found in
-    let f = found_head args.t.now _ args.id c.in-At.i used.ensures.0
-    (sym replica.ensures ∙ c.in-At.is) in
+    let f = found_head args.t.now _ args.id c.in-At.i c.replicas_used.ensures.0
+    (sym c.replica-found.ensures ∙ c.in-At.is) in
     let n = f.1 ∙ ap some (sym c.read-h.ensures) in
-    mend_dead args.id args.time pre _ n (ne_eqb _ _ c.if-h-ne1.true)
+    mend_dead args.id args.time c.requires _ n (ne_eqb _ _ c.if-h-ne1.true)
 
 pub is_dead-requires : goal.is_dead-requires
 is_dead-requires c =
-    let pre = c.requires in
-    omega (arith, pre.works.stands.size)
+    omega (arith, c.requires.works.stands.size)
 
 pub returns-then-not-is_dead : goal.returns-then-not-is_dead
 returns-then-not-is_dead c =
     let args = c.args in
-    let pre = c.requires in
-    let used = c.replicas_used in
-    let replica = c.replica-found in
-    let read = c.read-h in
-    let if1 = c.if-h-ne1 in
-    let is-dead = c.is_dead in
-    let f = found_head args.t.now _ args.id c.in-At.i used.ensures.0
-    (sym replica.ensures ∙ c.in-At.is) in
-    let n = f.1 ∙ ap some (sym read.ensures) in
-    mend_live args.id args.time pre _ n (eq-eqb _ _ if1.false)
-    (sym is-dead.ensures ∙ c.if-not-is_dead.true)
+    let f = found_head args.t.now _ args.id c.in-At.i c.replicas_used.ensures.0
+    (sym c.replica-found.ensures ∙ c.in-At.is) in
+    let n = f.1 ∙ ap some (sym c.read-h.ensures) in
+    mend_live args.id args.time c.requires _ n (eq-eqb _ _ c.if-h-ne1.false)
+    (sym c.is_dead.ensures ∙ c.if-not-is_dead.true)
 
 pub overflow_sub-h : goal.overflow_sub-h
 overflow_sub-h c =
     let args = c.args in
-    let pre = c.requires in
-    let used = c.replicas_used in
-    let replica = c.replica-found in
-    let read = c.read-h in
-    let if1 = c.if-h-ne1 in
-    let is-dead = c.is_dead in
-    let f = found_head args.t.now _ args.id c.in-At.i used.ensures.0
-    (sym replica.ensures ∙ c.in-At.is) in
-    let n = f.1 ∙ ap some (sym read.ensures) in
+    let f = found_head args.t.now _ args.id c.in-At.i c.replicas_used.ensures.0
+    (sym c.replica-found.ensures ∙ c.in-At.is) in
+    let n = f.1 ∙ ap some (sym c.read-h.ensures) in
     omega (
       arith,
-      mend_low args.id args.time pre _ n (eq-eqb _ _ if1.false)
-          (sym is-dead.ensures ∙ c.if-not-is_dead.false),
+      mend_low args.id args.time c.requires _ n (eq-eqb _ _ c.if-h-ne1.false)
+          (sym c.is_dead.ensures ∙ c.if-not-is_dead.false),
     )
 
 pub make_live-requires : goal.make_live-requires
 make_live-requires c =
     let args = c.args in
-    let pre = c.requires in
-    let used = c.replicas_used in
-    let replica = c.replica-found in
-    let read = c.read-h in
-    let if1 = c.if-h-ne1 in
-    let is-dead = c.is_dead in
-    let f = found_head args.t.now _ args.id c.in-At.i used.ensures.0
-    (sym replica.ensures ∙ c.in-At.is) in
-    let n = f.1 ∙ ap some (sym read.ensures) in
-    mend_lights args.id args.time pre _ n (eq-eqb _ _ if1.false)
-    (sym is-dead.ensures ∙ c.if-not-is_dead.false)
+    let f = found_head args.t.now _ args.id c.in-At.i c.replicas_used.ensures.0
+    (sym c.replica-found.ensures ∙ c.in-At.is) in
+    let n = f.1 ∙ ap some (sym c.read-h.ensures) in
+    mend_lights args.id args.time c.requires _ n (eq-eqb _ _ c.if-h-ne1.false)
+    (sym c.is_dead.ensures ∙ c.if-not-is_dead.false)
 
 pub returns : goal.returns
 returns c =
     let args = c.args in
-    let pre = c.requires in
-    let used = c.replicas_used in
-    let replica = c.replica-found in
-    let read = c.read-h in
-    let if1 = c.if-h-ne1 in
-    let is-dead = c.is_dead in
-    let if2 = c.if-not-is_dead in
-    let f = found_head args.t.now _ args.id c.in-At.i used.ensures.0
-    (sym replica.ensures ∙ c.in-At.is) in
-    let n = f.1 ∙ ap some (sym read.ensures) in
-    mend_made args.id args.time pre _ n (eq-eqb _ _ if1.false)
-    (sym is-dead.ensures ∙ if2.false) c.make_live.ensures
+    let f = found_head args.t.now _ args.id c.in-At.i c.replicas_used.ensures.0
+    (sym c.replica-found.ensures ∙ c.in-At.is) in
+    let n = f.1 ∙ ap some (sym c.read-h.ensures) in
+    mend_made args.id args.time c.requires _ n (eq-eqb _ _ c.if-h-ne1.false)
+    (sym c.is_dead.ensures ∙ c.if-not-is_dead.false) c.make_live.ensures

@@ -11,9 +11,8 @@ replicas_used-m-requires c = omega (arith, c.requires.0.stands.size)
 
 pub loop-i-init : goal.loop-i-init
 loop-i-init c =
-    let args = c.args in
     let pre = c.requires in
-    mending_start args.time args.t.now pre.4 pre.0 pre.1 pre.2 pre.3
+    mending_start c.args.time c.args.t.now pre.4 pre.0 pre.1 pre.2 pre.3
 
 pub overflow_mul-i : goal.overflow_mul-i
 overflow_mul-i c = omega (arith, c.loop-i-test.true, c.replicas_used-m.ensures.1)
@@ -26,54 +25,39 @@ overflow_add-i-in-loop-i c = omega (arith, c.loop-i-test.true, c.replicas_used-m
 
 pub get_u32-id-requires : goal.get_u32-id-requires
 get_u32-id-requires c =
-    let used = c.replicas_used-m in
     omega (
       arith,
       c.loop-i-test.true,
-      used.ensures.1,
+      c.replicas_used-m.ensures.1,
       c.loop-i.invariant.works.stands.size,
     )
 
 pub mend-requires : goal.mend-requires
 mend-requires c =
-    let args = c.args in
-    let used = c.replicas_used-m in
-    let loop = c.loop-i in
-    let loop-test = c.loop-i-test in
-    mending_mends args.time args.t.now loop.i loop.invariant
-    (omega (arith, loop-test.true, used.ensures.0))
+    mending_mends c.args.time c.args.t.now c.loop-i.i c.loop-i.invariant
+    (omega (arith, c.loop-i-test.true, c.replicas_used-m.ensures.0))
 
 pub returns-then-not-mend : goal.returns-then-not-mend
 returns-then-not-mend c =
     let args = c.args in
-    let used = c.replicas_used-m in
     let loop = c.loop-i in
-    let loop-test = c.loop-i-test in
-    let get-u32 = c.get_u32-id in
-    let mend = c.mend in
-    let id = get-u32.ensures ∙ sym (id_at loop.t loop.i) ∙ (mending_id args.time args.t.now loop.i
-    loop.invariant (omega (arith, loop-test.true, used.ensures.0))).1 in
+    let id = c.get_u32-id.ensures ∙ sym (id_at loop.t loop.i) ∙ (mending_id args.time args.t.now loop.i
+    loop.invariant (omega (arith, c.loop-i-test.true, c.replicas_used-m.ensures.0))).1 in
     mending_full args.time args.t.now loop.i loop.invariant
-    (omega (arith, loop-test.true, used.ensures.0)) _ id
-    (made_as c.if-not-mend.true mend.ensures)
+    (omega (arith, c.loop-i-test.true, c.replicas_used-m.ensures.0)) _ id
+    (made_as c.if-not-mend.true c.mend.ensures)
 
 pub loop-i-preserved : goal.loop-i-preserved
 loop-i-preserved c =
     let args = c.args in
-    let used = c.replicas_used-m in
     let loop = c.loop-i in
-    let loop-test = c.loop-i-test in
-    let get-u32 = c.get_u32-id in
-    let mend = c.mend in
-    let id = get-u32.ensures ∙ sym (id_at loop.t loop.i) ∙ (mending_id args.time args.t.now loop.i
-    loop.invariant (omega (arith, loop-test.true, used.ensures.0))).1 in
+    let id = c.get_u32-id.ensures ∙ sym (id_at loop.t loop.i) ∙ (mending_id args.time args.t.now loop.i
+    loop.invariant (omega (arith, c.loop-i-test.true, c.replicas_used-m.ensures.0))).1 in
     mending_turn args.time args.t.now loop.i loop.invariant
-    (omega (arith, loop-test.true, used.ensures.0)) _ id
-    (made_as c.if-not-mend.false mend.ensures)
+    (omega (arith, c.loop-i-test.true, c.replicas_used-m.ensures.0)) _ id
+    (made_as c.if-not-mend.false c.mend.ensures)
 
 pub returns : goal.returns
 returns c =
-    let args = c.args in
-    let loop = c.loop-i in
-    mending_end args.time args.t.now loop.i loop.invariant
+    mending_end c.args.time c.args.t.now c.loop-i.i c.loop-i.invariant
     (omega (arith, c.loop-i-test.false, c.replicas_used-m.ensures.0))

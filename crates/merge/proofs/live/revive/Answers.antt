@@ -10,45 +10,32 @@ replicas_used-requires c = omega (arith, c.requires.works.stands.size)
 
 pub replica-found-requires : goal.replica-found-requires
 replica-found-requires c =
-    let pre = c.requires in
-    (omega (arith, pre.works.stands.size), c.replicas_used.ensures.1)
+    (omega (arith, c.requires.works.stands.size), c.replicas_used.ensures.1)
 
 pub returns-in_default : goal.returns-in_default
 returns-in_default c =
     let args = c.args in
-    let pre = c.requires in
-    let used = c.replicas_used in
-    revive_none args.id args.time pre.works
-    (not_found args.t.now _ args.id used.ensures.0
+    revive_none args.id args.time c.requires.works
+    (not_found args.t.now _ args.id c.replicas_used.ensures.0
     (sym c.replica-found.ensures ∙ c.in_default.is))
 
 pub overflow_mul-i : goal.overflow_mul-i
 overflow_mul-i c =
-    let args = c.args in
-    let used = c.replicas_used in
-    let replica = c.replica-found in
-    let f = found_head args.t.now _ args.id c.in-At.i used.ensures.0
-    (sym replica.ensures ∙ c.in-At.is) in
-    omega (arith, f.0, used.ensures.1)
+    let f = found_head c.args.t.now _ c.args.id c.in-At.i c.replicas_used.ensures.0
+    (sym c.replica-found.ensures ∙ c.in-At.is) in
+    omega (arith, f.0, c.replicas_used.ensures.1)
 
 pub overflow_add-i : goal.overflow_add-i
 overflow_add-i c =
-    let args = c.args in
-    let used = c.replicas_used in
-    let replica = c.replica-found in
-    let f = found_head args.t.now _ args.id c.in-At.i used.ensures.0
-    (sym replica.ensures ∙ c.in-At.is) in
-    omega (arith, f.0, used.ensures.1)
+    let f = found_head c.args.t.now _ c.args.id c.in-At.i c.replicas_used.ensures.0
+    (sym c.replica-found.ensures ∙ c.in-At.is) in
+    omega (arith, f.0, c.replicas_used.ensures.1)
 
 pub read-h-requires : goal.read-h-requires
 read-h-requires c =
-    let args = c.args in
-    let pre = c.requires in
-    let used = c.replicas_used in
-    let replica = c.replica-found in
-    let f = found_head args.t.now _ args.id c.in-At.i used.ensures.0
-    (sym replica.ensures ∙ c.in-At.is) in
-    omega (arith, f.0, used.ensures.1, pre.works.stands.size)
+    let f = found_head c.args.t.now _ c.args.id c.in-At.i c.replicas_used.ensures.0
+    (sym c.replica-found.ensures ∙ c.in-At.is) in
+    omega (arith, f.0, c.replicas_used.ensures.1, c.requires.works.stands.size)
 
 pub draw-stamp-requires : goal.draw-stamp-requires
 draw-stamp-requires c =
@@ -58,27 +45,16 @@ draw-stamp-requires c =
 pub state-requires : goal.state-requires
 state-requires c =
     let args = c.args in
-    let pre = c.requires in
-    let used = c.replicas_used in
-    let replica = c.replica-found in
-    let read = c.read-h in
-    let draw = c.draw-stamp in
-    let f = found_head args.t.now _ args.id c.in-At.i used.ensures.0
-    (sym replica.ensures ∙ c.in-At.is) in
-    let n = f.1 ∙ ap some (sym read.ensures) in
-    revive_ready args.id args.time pre _ n draw.ensures.0 draw.ensures.1 c.with_stamp.ensures
+    let f = found_head args.t.now _ args.id c.in-At.i c.replicas_used.ensures.0
+    (sym c.replica-found.ensures ∙ c.in-At.is) in
+    let n = f.1 ∙ ap some (sym c.read-h.ensures) in
+    revive_ready args.id args.time c.requires _ n c.draw-stamp.ensures.0 c.draw-stamp.ensures.1 c.with_stamp.ensures
 
 pub returns : goal.returns
 returns c =
     let args = c.args in
-    let pre = c.requires in
-    let used = c.replicas_used in
-    let replica = c.replica-found in
-    let read = c.read-h in
-    let draw = c.draw-stamp in
-    let with-stamp = c.with_stamp in
-    let f = found_head args.t.now _ args.id c.in-At.i used.ensures.0
-    (sym replica.ensures ∙ c.in-At.is) in
-    let n = f.1 ∙ ap some (sym read.ensures) in
-    revive_made args.id args.time pre _ n draw.ensures.0 draw.ensures.1 with-stamp.ensures
+    let f = found_head args.t.now _ args.id c.in-At.i c.replicas_used.ensures.0
+    (sym c.replica-found.ensures ∙ c.in-At.is) in
+    let n = f.1 ∙ ap some (sym c.read-h.ensures) in
+    revive_made args.id args.time c.requires _ n c.draw-stamp.ensures.0 c.draw-stamp.ensures.1 c.with_stamp.ensures
     c.state.ensures

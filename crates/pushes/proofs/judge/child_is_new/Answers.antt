@@ -30,9 +30,8 @@ returns-then-is_same c =
     let l = c.loop-j in
     let a = c.args in
     c.is_same.ensures ∙ is_same_law a.k a.m.now a.i l.j _ _ l.invariant.1 l.invariant.2 in
-    let l = c.loop-j in
     and_stop _ _ (ap not (sym tested ∙ c.if-is_same.true))
-    ∙ sym (l.invariant.3 ∙ slots_step _ _ _ c.loop-j-test.true)
+    ∙ sym (c.loop-j.invariant.3 ∙ slots_step _ _ _ c.loop-j-test.true)
 
 pub loop-j-preserved : goal.loop-j-preserved
 loop-j-preserved c =

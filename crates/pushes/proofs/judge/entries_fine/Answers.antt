@@ -17,17 +17,15 @@ loop-i-init c =
 
 pub returns-then-not-entry_fine : goal.returns-then-not-entry_fine
 returns-then-not-entry_fine c =
-    let l = c.loop-i in
     and_stop _ _ (sym c.entry_fine.ensures ∙ c.if-not-entry_fine.true)
-    ∙ sym (l.invariant.1 ∙ slots_step _ _ _ c.loop-i-test.true)
+    ∙ sym (c.loop-i.invariant.1 ∙ slots_step _ _ _ c.loop-i-test.true)
 
 pub loop-i-preserved : goal.loop-i-preserved
-loop-i-preserved c =
-    let l = c.loop-i in (
-      omega arith,
-      l.invariant.1 ∙ slots_step _ _ _ c.loop-i-test.true
-          ∙ sym (and_go _ _ (sym c.entry_fine.ensures ∙ c.if-not-entry_fine.false) refl),
-    )
+loop-i-preserved c = (
+  omega arith,
+  c.loop-i.invariant.1 ∙ slots_step _ _ _ c.loop-i-test.true
+      ∙ sym (and_go _ _ (sym c.entry_fine.ensures ∙ c.if-not-entry_fine.false) refl),
+)
 
 pub returns : goal.returns
 returns c = sym (c.loop-i.invariant.1 ∙ slots_none _ _ _ c.loop-i-test.false)

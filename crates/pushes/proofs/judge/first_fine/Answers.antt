@@ -13,20 +13,18 @@ returns-then-not-in_range c = and_stop _ _ (sym c.in_range.ensures ∙ c.if-not-
 pub returns-then-not-is_held : goal.returns-then-not-is_held
 unfolding first_fine
 returns-then-not-is_held c =
-    let held : let a = c.args in
-    c.is_held.result ≡ held_by a.header.sender (head_in a.m.now 0) =
-    let a = c.args in
-    c.is_held.ensures ∙ ap (held_by a.header.sender) c.head-h.ensures in
+    let held :
+    c.is_held.result ≡ held_by c.args.header.sender (head_in c.args.m.now 0) =
+    c.is_held.ensures ∙ ap (held_by c.args.header.sender) c.head-h.ensures in
     and_go _ _ (sym c.in_range.ensures ∙ c.if-not-in_range.false)
     (and_stop _ _ (sym held ∙ c.if-not-is_held.true))
 
 pub returns : goal.returns
 unfolding first_fine
 returns c =
-    let held : let a = c.args in
-    c.is_held.result ≡ held_by a.header.sender (head_in a.m.now 0) =
-    let a = c.args in
-    c.is_held.ensures ∙ ap (held_by a.header.sender) c.head-h.ensures in
+    let held :
+    c.is_held.result ≡ held_by c.args.header.sender (head_in c.args.m.now 0) =
+    c.is_held.ensures ∙ ap (held_by c.args.header.sender) c.head-h.ensures in
     and_go _ _ (sym c.in_range.ensures ∙ c.if-not-in_range.false)
     (and_go _ _ (sym held ∙ c.if-not-is_held.false)
     (c.top_fine.ensures

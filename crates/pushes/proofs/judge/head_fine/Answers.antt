@@ -16,8 +16,7 @@ unfolding head_fine
 returns-then-not-is_held c =
     let held : let a = c.args in
     c.is_held.result ≡ held_by a.sender (head_in a.m.now a.i) =
-    let a = c.args in
-    c.is_held.ensures ∙ ap (held_by a.sender) c.head-g.ensures in
+    c.is_held.ensures ∙ ap (held_by c.args.sender) c.head-g.ensures in
     and_go _ _ (sym c.in_range.ensures ∙ c.if-not-in_range.false)
     (and_stop _ _ (sym held ∙ c.if-not-is_held.true))
 
@@ -30,10 +29,9 @@ returns-then-not-is_linked c =
     c.is_held.ensures ∙ ap (held_by a.sender) c.head-g.ensures in
     let place : let a = c.args in
     c.is_linked.result ≡ linked (head_in a.m.now (a.i - 1)) (head_in a.m.now a.i) =
-    let a = c.args in
     c.is_linked.ensures
     ∙ ap (λ (h : Head). linked h c.head-g.result) c.head.ensures
-    ∙ ap (linked (head_in a.m.now (a.i - 1))) c.head-g.ensures in
+    ∙ ap (linked (head_in c.args.m.now (c.args.i - 1))) c.head-g.ensures in
     and_go _ _ (sym c.in_range.ensures ∙ c.if-not-in_range.false)
     (and_go _ _ (sym held ∙ c.if-not-is_held.false)
     (and_stop _ _ (sym place ∙ c.if-not-is_linked.true)))
@@ -47,10 +45,9 @@ returns c =
     c.is_held.ensures ∙ ap (held_by a.sender) c.head-g.ensures in
     let place : let a = c.args in
     c.is_linked.result ≡ linked (head_in a.m.now (a.i - 1)) (head_in a.m.now a.i) =
-    let a = c.args in
     c.is_linked.ensures
     ∙ ap (λ (h : Head). linked h c.head-g.result) c.head.ensures
-    ∙ ap (linked (head_in a.m.now (a.i - 1))) c.head-g.ensures in
+    ∙ ap (linked (head_in c.args.m.now (c.args.i - 1))) c.head-g.ensures in
     and_go _ _ (sym c.in_range.ensures ∙ c.if-not-in_range.false)
     (and_go _ _ (sym held ∙ c.if-not-is_held.false)
     (and_go _ _ (sym place ∙ c.if-not-is_linked.false) c.id_is_new.ensures))

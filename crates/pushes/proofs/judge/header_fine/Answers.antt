@@ -29,12 +29,11 @@ returns-then-h c =
 pub returns : goal.returns
 unfolding header_fine
 returns c =
-    let l = c.args.m.now in
     and_go _ _ (le-leb _ _ c.if-m-lt-SIZE.false)
     (and_go _ _ (sym c.in_range.ensures ∙ c.if-not-in_range.false)
     (and_go _ _
     (ap not
     (ap (λ (h : PushHeader). eqb h.sender h.addressee) (sym c.header-h.ensures)
     ∙ ne_eqb _ _ c.if-h.false))
-    (ap (eqb (length l))
+    (ap (eqb (length c.args.m.now))
     (c.size_of.ensures ∙ ap (λ (h : PushHeader). entry_spot h.heads h.entries) c.header-h.ensures))))

@@ -13,18 +13,16 @@ loop-i-init c = (search rules, search rules, refl)
 
 pub returns-then-not-head_fine : goal.returns-then-not-head_fine
 returns-then-not-head_fine c =
-    let l = c.loop-i in
     and_stop _ _ (sym c.head_fine.ensures ∙ c.if-not-head_fine.true)
-    ∙ sym (l.invariant.2 ∙ slots_step _ _ _ c.loop-i-test.true)
+    ∙ sym (c.loop-i.invariant.2 ∙ slots_step _ _ _ c.loop-i-test.true)
 
 pub loop-i-preserved : goal.loop-i-preserved
-loop-i-preserved c =
-    let l = c.loop-i in (
-      omega arith,
-      omega arith,
-      l.invariant.2 ∙ slots_step _ _ _ c.loop-i-test.true
-          ∙ sym (and_go _ _ (sym c.head_fine.ensures ∙ c.if-not-head_fine.false) refl),
-    )
+loop-i-preserved c = (
+  omega arith,
+  omega arith,
+  c.loop-i.invariant.2 ∙ slots_step _ _ _ c.loop-i-test.true
+      ∙ sym (and_go _ _ (sym c.head_fine.ensures ∙ c.if-not-head_fine.false) refl),
+)
 
 pub returns : goal.returns
 returns c = sym (c.loop-i.invariant.2 ∙ slots_none _ _ _ c.loop-i-test.false)

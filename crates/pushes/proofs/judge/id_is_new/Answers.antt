@@ -22,16 +22,14 @@ loop-j-init c =
 pub returns-then-get_u32-id : goal.returns-then-get_u32-id
 returns-then-get_u32-id c =
     let l = c.loop-j in
-    let a = c.args in
     and_stop _ _
     (ap not
-    (eq-eqb _ _ (id_at a.m.now l.j ∙ sym c.get_u32.ensures ∙ c.if-get_u32-id.true ∙ l.invariant.1)))
+    (eq-eqb _ _ (id_at c.args.m.now l.j ∙ sym c.get_u32.ensures ∙ c.if-get_u32-id.true ∙ l.invariant.1)))
     ∙ sym (l.invariant.2 ∙ slots_step _ _ _ c.loop-j-test.true)
 
 pub loop-j-preserved : goal.loop-j-preserved
 loop-j-preserved c =
-    let l = c.loop-j in
-    let a = c.args in (
+    let l = c.loop-j in (
       omega arith,
       l.invariant.1,
       l.invariant.2 ∙ slots_step _ _ _ c.loop-j-test.true
@@ -39,7 +37,7 @@ loop-j-preserved c =
           (and_go _ _
           (ap not
           (ne_eqb _ _
-          (λ e. c.if-get_u32-id.false (c.get_u32.ensures ∙ sym (id_at a.m.now l.j) ∙ e ∙ sym l.invariant.1))))
+          (λ e. c.if-get_u32-id.false (c.get_u32.ensures ∙ sym (id_at c.args.m.now l.j) ∙ e ∙ sym l.invariant.1))))
           refl),
     )
 

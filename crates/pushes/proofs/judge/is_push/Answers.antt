@@ -24,13 +24,11 @@ ends l g h k b p q e = e ∙ ap (λ (x : Head). ends_at_root x h) p ∙ ap (ends
 
 pub returns-then-not-header_fine : goal.returns-then-not-header_fine
 returns-then-not-header_fine c =
-    let l = c.args.m.now in
-    and_stop _ _ (sym c.header_fine.ensures ∙ c.if-not-header_fine.true) ∙ push_tests c.args.n l (push_at l 0) refl
+    and_stop _ _ (sym c.header_fine.ensures ∙ c.if-not-header_fine.true) ∙ push_tests c.args.n c.args.m.now (push_at c.args.m.now 0) refl
 
 pub header-header-requires : goal.header-header-requires
 header-header-requires c =
-    let l = c.args.m.now in
-    omega (arith, (sizes c.args.n l (push_at l 0) _ refl c.header_fine.ensures c.if-not-header_fine.false).3)
+    omega (arith, (sizes c.args.n c.args.m.now (push_at c.args.m.now 0) _ refl c.header_fine.ensures c.if-not-header_fine.false).3)
 
 pub first_fine-requires : goal.first_fine-requires
 first_fine-requires c =

@@ -9,9 +9,8 @@ use Rattle.pushes.proofs.judge.is_same.Goals as goal
 pub returns-then-get_u32-child : goal.returns-then-get_u32-child
 unfolding is_same
 returns-then-get_u32-child c =
-    let a = c.args in
     and_stop _ _
-    (ne_eqb _ _ (λ e. c.if-get_u32-child.true (c.get_u32.ensures ∙ sym (child_at a.m.now a.o) ∙ e)))
+    (ne_eqb _ _ (λ e. c.if-get_u32-child.true (c.get_u32.ensures ∙ sym (child_at c.args.m.now c.args.o) ∙ e)))
 
 pub returns : goal.returns
 unfolding is_same

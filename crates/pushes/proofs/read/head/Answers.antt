@@ -8,10 +8,8 @@ use Rattle.pushes.proofs.read.head.Goals as goal
 
 pub read-requires : goal.read-requires
 read-requires c =
-    let a = c.args in
-    omega (arith, ap length c.bytes_at.ensures, length_chunk a.m.now (head_spot a.i) 40 (omega arith))
+    omega (arith, ap length c.bytes_at.ensures, length_chunk c.args.m.now (head_spot c.args.i) 40 (omega arith))
 
 pub returns : goal.returns
 returns c =
-    let a = c.args in
-    c.read.ensures ∙ in_part head_of a.m.now _ (head_spot a.i) 40 c.bytes_at.ensures
+    c.read.ensures ∙ in_part head_of c.args.m.now _ (head_spot c.args.i) 40 c.bytes_at.ensures

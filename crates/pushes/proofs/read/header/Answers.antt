@@ -7,10 +7,8 @@ use Rattle.pushes.proofs.read.header.Goals as goal
 
 pub read-requires : goal.read-requires
 read-requires c =
-    let a = c.args in
-    omega (arith, ap length c.bytes_at.ensures, length_chunk a.m.now 0 16 (omega arith))
+    omega (arith, ap length c.bytes_at.ensures, length_chunk c.args.m.now 0 16 (omega arith))
 
 pub returns : goal.returns
 returns c =
-    let a = c.args in
-    c.read.ensures ∙ in_part push_of a.m.now _ 0 16 c.bytes_at.ensures
+    c.read.ensures ∙ in_part push_of c.args.m.now _ 0 16 c.bytes_at.ensures

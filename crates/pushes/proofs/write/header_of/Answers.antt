@@ -21,10 +21,9 @@ pub overflow_cast-result : goal.overflow_cast-result
 overflow_cast-result c =
     let counted : c.entries_in-listed.result ≡ entries_in c.args.t.now c.entries_used.result c.args.r.head.id =
     c.entries_in-listed.ensures in
-    let used = c.entries_used in
     omega (
       arith,
-      entries_few c.args.t.now c.args.r c.requires used.result c.entries_in-listed.result used.ensures.0
+      entries_few c.args.t.now c.args.r c.requires c.entries_used.result c.entries_in-listed.result c.entries_used.ensures.0
           counted,
     )
 
@@ -32,7 +31,6 @@ pub returns : goal.returns
 returns c =
     let counted : c.entries_in-listed.result ≡ entries_in c.args.t.now c.entries_used.result c.args.r.head.id =
     c.entries_in-listed.ensures in
-    let used = c.entries_used in
-    header_told c.args.t.now c.args.r c.requires c.args.node _ _ used.result _
+    header_told c.args.t.now c.args.r c.requires c.args.node _ _ c.entries_used.result _
     c.get_u8-sender.ensures
-    c.head_count.ensures used.ensures.0 counted
+    c.head_count.ensures c.entries_used.ensures.0 counted

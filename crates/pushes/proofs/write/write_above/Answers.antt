@@ -53,45 +53,37 @@ returns-then-d-eq0 c =
 pub returns-in_default : goal.returns-in_default
 returns-in_default c =
     let l = c.loop-i in
-    let used = c.replicas_used-m in
     ended _ _ _ l.d l.i _ _ l.invariant.3
-    (chain_gone _ l.d _ (not_found c.args.t.now used.result l.d used.ensures.0 (sym c.replica-found.ensures ∙ c.in_default.is)))
+    (chain_gone _ l.d _ (not_found c.args.t.now c.replicas_used-m.result l.d c.replicas_used-m.ensures.0 (sym c.replica-found.ensures ∙ c.in_default.is)))
 
 pub overflow_mul-s : goal.overflow_mul-s
 overflow_mul-s c =
-    let l = c.loop-i in
-    let used = c.replicas_used-m in
     omega (
       arith,
-      (found c.args.t.now _ c.args.most l.d l.i _ used.ensures.0 used.ensures.1
+      (found c.args.t.now _ c.args.most c.loop-i.d c.loop-i.i _ c.replicas_used-m.ensures.0 c.replicas_used-m.ensures.1
           (sym c.replica-found.ensures ∙ c.in-At.is) c.loop-i-test.true c.if-d-eq0.false).0,
     )
 
 pub overflow_add-s : goal.overflow_add-s
 overflow_add-s c =
-    let l = c.loop-i in
-    let used = c.replicas_used-m in
     omega (
       arith,
-      (found c.args.t.now _ c.args.most l.d l.i _ used.ensures.0 used.ensures.1
+      (found c.args.t.now _ c.args.most c.loop-i.d c.loop-i.i _ c.replicas_used-m.ensures.0 c.replicas_used-m.ensures.1
           (sym c.replica-found.ensures ∙ c.in-At.is) c.loop-i-test.true c.if-d-eq0.false).0,
     )
 
 pub read-h-requires : goal.read-h-requires
 read-h-requires c =
-    let l = c.loop-i in
-    let used = c.replicas_used-m in
     omega (
       arith,
-      (found c.args.t.now _ c.args.most l.d l.i _ used.ensures.0 used.ensures.1
+      (found c.args.t.now _ c.args.most c.loop-i.d c.loop-i.i _ c.replicas_used-m.ensures.0 c.replicas_used-m.ensures.1
           (sym c.replica-found.ensures ∙ c.in-At.is) c.loop-i-test.true c.if-d-eq0.false).0,
     )
 
 pub write-requires : goal.write-requires
 write-requires c =
     let l = c.loop-i in
-    let used = c.replicas_used-m in
-    let f = found c.args.t.now _ c.args.most l.d l.i _ used.ensures.0 used.ensures.1
+    let f = found c.args.t.now _ c.args.most l.d l.i _ c.replicas_used-m.ensures.0 c.replicas_used-m.ensures.1
     (sym c.replica-found.ensures ∙ c.in-At.is) c.loop-i-test.true c.if-d-eq0.false in
     omega (arith, ap length f.1, l.invariant.1, l.invariant.2)
 
@@ -99,9 +91,8 @@ pub loop-i-preserved : goal.loop-i-preserved
 loop-i-preserved c =
     let l = c.loop-i in
     let a = c.args in
-    let used = c.replicas_used-m in
     let h = c.read-h.result in
-    let f = found a.t.now _ a.most l.d l.i _ used.ensures.0 used.ensures.1
+    let f = found a.t.now _ a.most l.d l.i _ c.replicas_used-m.ensures.0 c.replicas_used-m.ensures.1
     (sym c.replica-found.ensures ∙ c.in-At.is) c.loop-i-test.true c.if-d-eq0.false in
     let rest : Head → List Head = λ (g : Head). g ∷ left a.t.now a.most g.directory (l.i + 1) in
     let up = f.1 ∙ ap rest (sym c.read-h.ensures) in

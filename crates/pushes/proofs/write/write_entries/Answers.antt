@@ -31,14 +31,11 @@ write_slot-at-requires c =
     length (listed_from a.t.now a.directory k i)
     ≡ length (listed_at a.t.now a.directory i) + length (listed_from a.t.now a.directory k (i + 1)) =
     let a = c.args in
-    let i = c.loop-i.i in
-    ap length (listed_step a.t.now a.directory _ i c.loop-i-test.true)
-    ∙ length-append (listed_at a.t.now a.directory i) _ in
-    let l = c.loop-i in
-    let used = c.entries_used-k.ensures in (
+    ap length (listed_step a.t.now a.directory _ c.loop-i.i c.loop-i-test.true)
+    ∙ length-append (listed_at a.t.now a.directory c.loop-i.i) _ in (
       omega arith,
-      omega (arith, used.1, c.loop-i-test.true),
-      omega (arith, count, room, l.invariant.1, l.invariant.2),
+      omega (arith, c.entries_used-k.ensures.1, c.loop-i-test.true),
+      omega (arith, count, room, c.loop-i.invariant.1, c.loop-i.invariant.2),
     )
 
 pub loop-i-preserved : goal.loop-i-preserved
@@ -58,9 +55,8 @@ loop-i-preserved c =
     length (listed_from a.t.now a.directory k i)
     ≡ length (listed_at a.t.now a.directory i) + length (listed_from a.t.now a.directory k (i + 1)) =
     let a = c.args in
-    let i = c.loop-i.i in
-    ap length (listed_step a.t.now a.directory _ i c.loop-i-test.true)
-    ∙ length-append (listed_at a.t.now a.directory i) _ in
+    ap length (listed_step a.t.now a.directory _ c.loop-i.i c.loop-i-test.true)
+    ∙ length-append (listed_at a.t.now a.directory c.loop-i.i) _ in
     let l = c.loop-i in
     let a = c.args in
     let k = c.entries_used-k.result in
@@ -84,9 +80,8 @@ pub returns : goal.returns
 returns c =
     let l = c.loop-i in
     let a = c.args in
-    let used = c.entries_used-k in
     rows_end entry_bytes l.out l.at
-    (listed_end a.t.now a.directory used.result l.i c.loop-i-test.false)
+    (listed_end a.t.now a.directory c.entries_used-k.result l.i c.loop-i-test.false)
     ∙ l.invariant.3
     ∙ ap (λ (es : List Entry). splice a.out.now a.o (rows entry_bytes es))
-    (listed_all a.t.now a.directory _ used.ensures.0)
+    (listed_all a.t.now a.directory _ c.entries_used-k.ensures.0)

@@ -20,16 +20,13 @@ returns-then-not-is_sound c =
 
 pub get_u8-requires : goal.get_u8-requires
 get_u8-requires c =
-    let l = c.args.table.now in
-    omega (arith, sound_length l (sym c.is_sound.ensures ∙ c.if-not-is_sound.false))
+    omega (arith, sound_length c.args.table.now (sym c.is_sound.ensures ∙ c.if-not-is_sound.false))
 
 pub returns-then-not-is_acknowledgement : goal.returns-then-not-is_acknowledgement
 returns-then-not-is_acknowledgement c =
-    let l = c.args.table.now in
-    let m = c.args.message.now in
     refuses _
-    (malformed l m (sym c.is_sound.ensures ∙ c.if-not-is_sound.false)
-    (ap (λ (n : ℕ). is_ack n m) (sym (c.get_u8.ensures ∙ nodes_at l))
+    (malformed c.args.table.now c.args.message.now (sym c.is_sound.ensures ∙ c.if-not-is_sound.false)
+    (ap (λ (n : ℕ). is_ack n c.args.message.now) (sym (c.get_u8.ensures ∙ nodes_at c.args.table.now))
     ∙ (sym c.is_acknowledgement.ensures ∙ c.if-not-is_acknowledgement.true)))
 
 pub read-requires : goal.read-requires

@@ -15,10 +15,9 @@ get_u8-requires c =
 
 pub returns-then-a-get_u8 : goal.returns-then-a-get_u8
 returns-then-a-get_u8 c =
-    let l = c.args.table.now in
     refuses _
-    (clear_5 (table_of l) c.args.a
-    (ne_eqb _ _ (λ e. c.if-a-get_u8.true (e ∙ sym (own_at l) ∙ sym c.get_u8.ensures))))
+    (clear_5 (table_of c.args.table.now) c.args.a
+    (ne_eqb _ _ (λ e. c.if-a-get_u8.true (e ∙ sym (own_at c.args.table.now) ∙ sym c.get_u8.ensures))))
 
 pub replicas_used-requires : goal.replicas_used-requires
 replicas_used-requires c =
@@ -40,13 +39,11 @@ returns-in_default c =
 
 pub clear_slot-requires : goal.clear_slot-requires
 clear_slot-requires c =
-    let l = c.args.table.now in
-    let a = c.args.a in
     record {
       sound = c.requires;
-      own = c.if-a-get_u8.false ∙ c.get_u8.ensures ∙ own_at l;
+      own = c.if-a-get_u8.false ∙ c.get_u8.ensures ∙ own_at c.args.table.now;
       found =
-          ap (λ (m : ℕ). first_replica l m a.id) (sym c.replicas_used.ensures.0)
+          ap (λ (m : ℕ). first_replica c.args.table.now m c.args.a.id) (sym c.replicas_used.ensures.0)
           ∙ sym c.replica-found.ensures ∙ c.in-At.is;
     }
 

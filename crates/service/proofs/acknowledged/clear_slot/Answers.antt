@@ -31,12 +31,11 @@ get_u32-requires c =
 
 pub returns-then-get_u32-a : goal.returns-then-get_u32-a
 returns-then-get_u32-a c =
-    let a = c.args.a in
     refuses _
     (slot_refused c.requires
     (sym
     (and_stop _ _
-    (ap (λ (v : ℕ). eqb v a.version) (sym c.get_u32.ensures) ∙ ne_eqb _ _ c.if-get_u32-a.true))))
+    (ap (λ (v : ℕ). eqb v c.args.a.version) (sym c.get_u32.ensures) ∙ ne_eqb _ _ c.if-get_u32-a.true))))
 
 pub overflow_add-o-3 : goal.overflow_add-o-3
 overflow_add-o-3 c =
@@ -50,13 +49,12 @@ get_u8-pending-requires c =
 
 pub returns-then-not-has : goal.returns-then-not-has
 returns-then-not-has c =
-    let a = c.args.a in
     refuses _
     (slot_refused c.requires
     (sym
     (and_go _ _
-    (ap (λ (c : ℕ). eqb c a.version) (sym c.get_u32.ensures) ∙ eq-eqb _ _ c.if-get_u32-a.false)
-    (sym (ap (λ (p : ℕ). has p a.sender) (sym c.get_u8-pending.ensures)
+    (ap (λ (v : ℕ). eqb v c.args.a.version) (sym c.get_u32.ensures) ∙ eq-eqb _ _ c.if-get_u32-a.false)
+    (sym (ap (λ (p : ℕ). has p c.args.a.sender) (sym c.get_u8-pending.ensures)
     ∙ (sym c.has.ensures ∙ c.if-not-has.true))))))
 
 pub overflow_add-o-4 : goal.overflow_add-o-4

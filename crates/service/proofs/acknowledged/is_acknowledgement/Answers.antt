@@ -10,18 +10,16 @@ returns-then-message-ne-SIZE c = and_stop _ _ (ne_eqb _ _ c.if-message-ne-SIZE.t
 
 pub returns-then-not-in_range : goal.returns-then-not-in_range
 returns-then-not-in_range c =
-    let a = c.args in
     and_go _ _ (eq-eqb _ _ c.if-message-ne-SIZE.false)
     (and_stop _ _
-    (ap (ack_in_range a.n) (sym (ack_whole a.message.now c.if-message-ne-SIZE.false))
+    (ap (ack_in_range c.args.n) (sym (ack_whole c.args.message.now c.if-message-ne-SIZE.false))
     ∙ (sym c.in_range.ensures ∙ c.if-not-in_range.true)))
 
 pub returns : goal.returns
 unfolding ack_of
 returns c =
-    let a = c.args in
     and_go _ _ (eq-eqb _ _ c.if-message-ne-SIZE.false)
     (and_go _ _
-    (ap (ack_in_range a.n) (sym (ack_whole a.message.now c.if-message-ne-SIZE.false))
+    (ap (ack_in_range c.args.n) (sym (ack_whole c.args.message.now c.if-message-ne-SIZE.false))
     ∙ (sym c.in_range.ensures ∙ c.if-not-in_range.false))
     (cc))

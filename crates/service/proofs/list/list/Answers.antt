@@ -60,6 +60,5 @@ list_held-requires c =
 pub returns : goal.returns
 returns c =
     let a = c.args in
-    let done = c.list_held.ensures in
     let call = sym (opened a.table.now a.id (length a.out.now) (sym c.is_sound.ensures ∙ c.if-not-is_sound.false)) in
-    (done.0 ∙ ap answer_of call, done.1 ∙ ap (λ (o : Outcome). output_after o a.out.now) call)
+    (c.list_held.ensures.0 ∙ ap answer_of call, c.list_held.ensures.1 ∙ ap (λ (o : Outcome). output_after o a.out.now) call)

@@ -59,11 +59,10 @@ returns c =
     let a = c.args in
     ap length (shown_of a.t.now a.id _ c.entries_used-k.ensures.0) ∙ sym c.shown_in-n.ensures.0 in
     let a = c.args in
-    let held = c.requires.1 in
     let shown = shown_of a.t.now a.id _ c.entries_used-k.ensures.0 in
     let done =
     done_out a.out.now _ _ _
-    (list_done a.id (length a.out.now) (table_of a.t.now) a.h held
+    (list_done a.id (length a.out.now) (table_of a.t.now) a.h c.requires.1
     (eq-eqb _ _ c.if-h-ne2.false)
     (omega (arith, counted, c.if-out-n.false))
     (eq-eqb _ _ c.if-h-ne1-2.false)) in (

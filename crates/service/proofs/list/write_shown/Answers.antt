@@ -32,14 +32,13 @@ pub loop-i-preserved : goal.loop-i-preserved
 loop-i-preserved c =
     let a = c.args in
     let l = c.loop-i in
-    let w = c.write_slot-n in
     let fewer = length_fewer a.t.now a.directory (l.i + 1) a.k (omega arith) in
     let here = rows entry_bytes (shown_at a.t.now a.directory l.i) in (
       omega arith,
-      w.ensures.0 ∙ ap (λ (m : ℕ). m + length (shown_at a.t.now a.directory l.i)) l.invariant.1
+      c.write_slot-n.ensures.0 ∙ ap (λ (m : ℕ). m + length (shown_at a.t.now a.directory l.i)) l.invariant.1
           ∙ sym (length_more a.t.now a.directory l.i),
       omega (arith, l.invariant.2),
-      w.ensures.1 ∙ ap (λ (m : ℕ). splice l.out (32 * m) here) l.invariant.1
+      c.write_slot-n.ensures.1 ∙ ap (λ (m : ℕ). splice l.out (32 * m) here) l.invariant.1
           ∙ ap (λ (o : List ℕ). splice o (32 * length (shown_in a.t.now a.directory l.i)) here) l.invariant.3
           ∙ written_more a.out.now a.t.now a.directory l.i (omega arith),
     )

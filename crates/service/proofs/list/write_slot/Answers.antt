@@ -34,10 +34,9 @@ returns c =
     let one =
     is_shown_law a.t.now a.directory a.s
     (sym c.shows.ensures ∙ c.if-not-shows.false) in
-    let bytes = ap (rows entry_bytes) one ∙ rows_one entry_bytes _ in
-    let read = c.read-e.ensures in (
+    let bytes = ap (rows entry_bytes) one ∙ rows_one entry_bytes _ in (
       omega (arith, ap length one),
       c.write.ensures
-          ∙ ap (λ (e : Entry). splice a.out.now (32 * a.n) (entry_bytes e)) read
+          ∙ ap (λ (e : Entry). splice a.out.now (32 * a.n) (entry_bytes e)) c.read-e.ensures
           ∙ ap (splice a.out.now (32 * a.n)) (sym bytes),
     )

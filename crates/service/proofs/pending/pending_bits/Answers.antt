@@ -23,5 +23,4 @@ loop-i-preserved c =
 
 pub returns : goal.returns
 returns c =
-    let l = c.loop-i in
-    omega (arith, l.invariant.2, sum_none (replica_in c.args.t.now) _ _ c.loop-i-test.false)
+    omega (arith, c.loop-i.invariant.2, sum_none (replica_in c.args.t.now) _ _ c.loop-i-test.false)

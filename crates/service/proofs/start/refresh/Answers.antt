@@ -7,7 +7,6 @@ use Rattle.service.proofs.start.refresh.Goals as goal
 
 pub returns : goal.returns
 returns c =
-    let root = c.root in
     after _ _ c.write-2.ensures
     (after _ _ c.write.ensures c.erase.ensures)
-    ∙ fresh_bytes c.args.t.now c.args.node c.args.n root.result c.requires.0 root.ensures
+    ∙ fresh_bytes c.args.t.now c.args.node c.args.n c.root.result c.requires.0 c.root.ensures

@@ -21,8 +21,7 @@ returns-then-not-is_size c =
 
 pub overflow_cast-n : goal.overflow_cast-n
 overflow_cast-n c =
-    let n = c.args.n in
-    omega (arith, size_most n (sym c.is_size.ensures ∙ c.if-not-is_size.false))
+    omega (arith, size_most c.args.n (sym c.is_size.ensures ∙ c.if-not-is_size.false))
 
 pub returns-then-not-is_node : goal.returns-then-not-is_node
 returns-then-not-is_node c =
@@ -43,13 +42,11 @@ overflow_cast-node c =
 
 pub overflow_cast-n-2 : goal.overflow_cast-n-2
 overflow_cast-n-2 c =
-    let n = c.args.n in
-    omega (arith, size_most n (sym c.is_size.ensures ∙ c.if-not-is_size.false))
+    omega (arith, size_most c.args.n (sym c.is_size.ensures ∙ c.if-not-is_size.false))
 
 pub refresh-requires : goal.refresh-requires
 refresh-requires c =
-    let n = c.args.n in
-    (omega arith, size_most n (sym c.is_size.ensures ∙ c.if-not-is_size.false))
+    (omega arith, size_most c.args.n (sym c.is_size.ensures ∙ c.if-not-is_size.false))
 
 pub returns : goal.returns
 returns c =

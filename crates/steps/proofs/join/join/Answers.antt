@@ -10,8 +10,7 @@ use Rattle.steps.proofs.join.join.Goals as goal
 
 pub entry-found-requires : goal.entry-found-requires
 entry-found-requires c =
-    let pre = c.requires in
-    (pre.0, omega (arith, pre.1, few_entries c.args.t.now))
+    (c.requires.0, omega (arith, c.requires.1, few_entries c.args.t.now))
 
 pub returns-in_default : goal.returns-in_default
 returns-in_default c =

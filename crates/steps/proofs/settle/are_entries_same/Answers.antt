@@ -13,13 +13,11 @@ loop-i-init c = (search rules, simp sub-zero)
 
 pub returns-then-not-is_slot_same : goal.returns-then-not-is_slot_same
 returns-then-not-is_slot_same c =
-    let l = c.loop-i in
-    and_stop _ _ (sym c.is_slot_same.ensures ∙ c.if-not-is_slot_same.true) ∙ sym (l.invariant.1 ∙ slots_step _ _ _ c.loop-i-test.true)
+    and_stop _ _ (sym c.is_slot_same.ensures ∙ c.if-not-is_slot_same.true) ∙ sym (c.loop-i.invariant.1 ∙ slots_step _ _ _ c.loop-i-test.true)
 
 pub loop-i-preserved : goal.loop-i-preserved
 loop-i-preserved c =
-    let l = c.loop-i in
-    (omega arith, l.invariant.1 ∙ slots_step _ _ _ c.loop-i-test.true ∙ sym (and_go _ _ (sym c.is_slot_same.ensures ∙ c.if-not-is_slot_same.false) refl))
+    (omega arith, c.loop-i.invariant.1 ∙ slots_step _ _ _ c.loop-i-test.true ∙ sym (and_go _ _ (sym c.is_slot_same.ensures ∙ c.if-not-is_slot_same.false) refl))
 
 pub returns : goal.returns
 returns c = sym (c.loop-i.invariant.1 ∙ slots_none _ _ _ c.loop-i-test.false)

@@ -9,11 +9,10 @@ use Rattle.table.proofs.counts.raise.Goals as goal
 pub returns-in_default : goal.returns-in_default
 returns-in_default c =
     let a = c.args in
-    let p = c.requires in
-    counted_other a.t.now a.m a.e a.counts.now p.3
+    counted_other a.t.now a.m a.e a.counts.now c.requires.3
     (ap (first_replica a.t.now a.m) (directory_at a.t.now a.e ∙ sym c.get_u32-directory.ensures)
     ∙ sym c.replica-found.ensures ∙ c.in_default.is)
-    p.4
+    c.requires.4
 
 pub offset_bounds-counts-s : goal.offset_bounds-counts-s
 offset_bounds-counts-s c = omega (arith, (held_at _ _ _ _ (sym c.replica-found.ensures ∙ c.in-At.is)).0)

@@ -29,5 +29,4 @@ loop-i-preserved c =
 
 pub returns : goal.returns
 returns c =
-    let l = c.loop-i in
-    omega (arith, l.invariant.2, count_none (is_listed_in c.args.t.now c.args.directory) _ _ c.loop-i-test.false)
+    omega (arith, c.loop-i.invariant.2, count_none (is_listed_in c.args.t.now c.args.directory) _ _ c.loop-i-test.false)

@@ -8,8 +8,7 @@ use Rattle.table.proofs.find.has_key.Goals as goal
 
 pub returns-then-get_u32-directory : goal.returns-then-get_u32-directory
 returns-then-get_u32-directory c =
-    let a = c.args in
-    and_stop _ _ (ne_eqb _ _ (λ e. c.if-get_u32-directory.true (c.get_u32.ensures ∙ sym (directory_at a.t.now a.s) ∙ e)))
+    and_stop _ _ (ne_eqb _ _ (λ e. c.if-get_u32-directory.true (c.get_u32.ensures ∙ sym (directory_at c.args.t.now c.args.s) ∙ e)))
 
 pub returns-then-get_u32-child : goal.returns-then-get_u32-child
 returns-then-get_u32-child c =

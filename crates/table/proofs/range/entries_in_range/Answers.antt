@@ -12,14 +12,12 @@ loop-i-init c = (search rules, simp sub-zero)
 
 pub returns-then-not-in_range : goal.returns-then-not-in_range
 returns-then-not-in_range c =
-    let l = c.loop-i in
     and_stop _ _ (sym c.in_range.ensures ∙ c.if-not-in_range.true)
-    ∙ sym (l.invariant.1 ∙ slots_step _ _ _ c.loop-i-test.true)
+    ∙ sym (c.loop-i.invariant.1 ∙ slots_step _ _ _ c.loop-i-test.true)
 
 pub loop-i-preserved : goal.loop-i-preserved
 loop-i-preserved c =
-    let l = c.loop-i in
-    (omega arith, l.invariant.1 ∙ slots_step _ _ _ c.loop-i-test.true ∙ sym (and_go _ _ (sym c.in_range.ensures ∙ c.if-not-in_range.false) refl))
+    (omega arith, c.loop-i.invariant.1 ∙ slots_step _ _ _ c.loop-i-test.true ∙ sym (and_go _ _ (sym c.in_range.ensures ∙ c.if-not-in_range.false) refl))
 
 pub returns : goal.returns
 returns c = sym (c.loop-i.invariant.1 ∙ slots_none _ _ _ c.loop-i-test.false)

@@ -16,14 +16,12 @@ replica_keeps-requires c =
 
 pub returns-then-not-replica_keeps : goal.returns-then-not-replica_keeps
 returns-then-not-replica_keeps c =
-    let l = c.loop-i in
     and_stop _ _ (sym c.replica_keeps.ensures ∙ c.if-not-replica_keeps.true)
-    ∙ sym (l.invariant.1 ∙ slots_step _ _ _ c.loop-i-test.true)
+    ∙ sym (c.loop-i.invariant.1 ∙ slots_step _ _ _ c.loop-i-test.true)
 
 pub loop-i-preserved : goal.loop-i-preserved
 loop-i-preserved c =
-    let l = c.loop-i in
-    (omega arith, l.invariant.1 ∙ slots_step _ _ _ c.loop-i-test.true ∙ sym (and_go _ _ (sym c.replica_keeps.ensures ∙ c.if-not-replica_keeps.false) refl))
+    (omega arith, c.loop-i.invariant.1 ∙ slots_step _ _ _ c.loop-i-test.true ∙ sym (and_go _ _ (sym c.replica_keeps.ensures ∙ c.if-not-replica_keeps.false) refl))
 
 pub returns : goal.returns
 returns c = sym (c.loop-i.invariant.1 ∙ slots_none _ _ _ c.loop-i-test.false)
