@@ -1,5 +1,5 @@
 -- Unlink and remove: the refusals, test by test, and the state that is killed. Assumes nothing.
-use Rattle.std.specs.Prelude.{◌≡◌, refl, Bool, true, false, ◌||◌, not, ℕ, ◌^◌, ◌≤◌, ◌<◌, eqb}
+use Rattle.std.specs.Prelude.{◌≡◌, refl, Bool, true, false, ◌||◌, not, ℕ, ◌^◌, ◌≤◌, ◌<◌, eqb, Some}
 use Rattle.std.proofs.Math.Path.{ap}
 use Rattle.std.proofs.Common.{sym, subst, ◌∙◌, arith, eq-eqb, ne_eqb, lt-ltb, le-ltb}
 use Rattle.std.proofs.Math.Option.{Option, some, none}
@@ -13,7 +13,6 @@ use Rattle.document.specs.Outcomes.{Outcome, refused, done, judged}
 use Rattle.document.specs.Calls.{when, is_now, changed_by, not_held, not_file, not_directory, place_not_held, killed, unlink_in, remove_in, any_shown, live_child}
 use Rattle.views.specs.Puts.{head_id}
 use Rattle.views.specs.Sounds.{root_only, sound_table}
-use Rattle.table.specs.declared.find.Found.TheVariants.{At}
 use Rattle.steps.specs.Standing.{Is}
 use Rattle.steps.specs.States.{Held, issue_stated}
 use Rattle.changes.specs.Finishing.{Changes, changed, skip, stop}
@@ -75,7 +74,7 @@ pub record Takes (l : List ℕ) (now : ℕ) (h : Head) : Type 0 where
   pub held : head_of (table_of l) h.id ≡ some h
 
 -- what was read where the number was found
-pub takes : (l : List ℕ) (id now : ℕ) {i : ℕ} {h : Head} → sound_bytes l ≡ true → now ≤ 1099511627775 → slot_of l id ≡ At i →
+pub takes : (l : List ℕ) (id now : ℕ) {i : ℕ} {h : Head} → sound_bytes l ≡ true → now ≤ 1099511627775 → slot_of l id ≡ Some i →
     h ≡ head_at l (replica_slot i) → Takes l now h × (h.id ≡ id)
 takes l id now {i} {h} s early e r =
     let q : head_of (table_of l) id ≡ some h = (slot_held l id i e).1 ∙ ap some (sym r) in

@@ -1,6 +1,6 @@
 -- What a call looks up in a table's bytes: the slot that a number names, and whether one of the slots passes a test.
 -- Assumes nothing.
-use Rattle.std.specs.Prelude.{◌≡◌, refl, Bool, true, false, ◌&&◌, ◌||◌, not, cond, List, ℕ, zero, suc, ◌+◌, ◌-◌, ◌≤◌, ◌<◌, eqb, ltb}
+use Rattle.std.specs.Prelude.{◌≡◌, refl, Bool, true, false, ◌&&◌, ◌||◌, not, cond, List, ℕ, zero, suc, ◌+◌, ◌-◌, ◌≤◌, ◌<◌, eqb, ltb, Option, Some, None}
 use Rattle.std.proofs.Common.{ap, sym, ◌∙◌, arith, lt-ltb, le-ltb, ltb-true, ltb-false}
 use Rattle.std.proofs.Math.Option.{some, none}
 use Rattle.std.proofs.Math.Nat.{sub-zero}
@@ -17,42 +17,40 @@ use Rattle.document.specs.Sound.{is_live, is_root_id}
 use Rattle.document.specs.Calls.{is_shown, name_taken, any_shown, live_child}
 use Rattle.document.specs.Reading.{few_replicas, live_at}
 use Rattle.answers.specs.Held.{not_an_id}
-use Rattle.table.specs.declared.find.Found.{Found}
-use Rattle.table.specs.declared.find.Found.TheVariants.{At, Nothing}
 use Rattle.table.specs.Slots.{first_replica, directory_at}
 use Rattle.table.specs.Rules.{found_head, not_found}
 
 -- ---- the slot that a number names; one past 2^32-1 names none
 
-abbrev pub slot_of : List ℕ → ℕ → Found
-slot_of l id = cond (ltb 4294967295 id) Nothing (first_replica l (replicas_used l) id)
+abbrev pub slot_of : List ℕ → ℕ → Option ℕ
+slot_of l id = cond (ltb 4294967295 id) None (first_replica l (replicas_used l) id)
 
-pub slot_large : (l : List ℕ) (id : ℕ) → 4294967295 < id → Nothing ≡ slot_of l id
-slot_large l id h = ap (λ (b : Bool). cond b Nothing (first_replica l (replicas_used l) id)) (sym (lt-ltb 4294967295 id h))
+pub slot_large : (l : List ℕ) (id : ℕ) → 4294967295 < id → None ≡ slot_of l id
+slot_large l id h = ap (λ (b : Bool). cond b None (first_replica l (replicas_used l) id)) (sym (lt-ltb 4294967295 id h))
 
-pub slot_small : (l : List ℕ) (id m : ℕ) {r : Found} → id ≤ 4294967295 → m ≡ replicas_used l → r ≡ first_replica l m id → r ≡ slot_of l id
+pub slot_small : (l : List ℕ) (id m : ℕ) {r : Option ℕ} → id ≤ 4294967295 → m ≡ replicas_used l → r ≡ first_replica l m id → r ≡ slot_of l id
 slot_small l id m h u e =
     e ∙ ap (λ (n : ℕ). first_replica l n id) u
-    ∙ ap (λ (b : Bool). cond b Nothing (first_replica l (replicas_used l) id)) (sym (le-ltb 4294967295 id h))
+    ∙ ap (λ (b : Bool). cond b None (first_replica l (replicas_used l) id)) (sym (le-ltb 4294967295 id h))
 
-pub slot_found : (l : List ℕ) (id i : ℕ) → slot_of l id ≡ At i →
-    (id ≤ 4294967295) × (first_replica l (replicas_used l) id ≡ At i)
+pub slot_found : (l : List ℕ) (id i : ℕ) → slot_of l id ≡ Some i →
+    (id ≤ 4294967295) × (first_replica l (replicas_used l) id ≡ Some i)
 slot_found l id i e = go (ltb 4294967295 id) refl e
   where
-    go : (b : Bool) → ltb 4294967295 id ≡ b → cond b Nothing (first_replica l (replicas_used l) id) ≡ At i →
-        (id ≤ 4294967295) × (first_replica l (replicas_used l) id ≡ At i)
+    go : (b : Bool) → ltb 4294967295 id ≡ b → cond b None (first_replica l (replicas_used l) id) ≡ Some i →
+        (id ≤ 4294967295) × (first_replica l (replicas_used l) id ≡ Some i)
     go true q r = let z : ◌≡◌ {A = ℕ} 0 1 = cc in absurd (omega arith)
     go false q r = (ltb-false 4294967295 id q, r)
 
-pub slot_held : (l : List ℕ) (id i : ℕ) → slot_of l id ≡ At i → (i < 64) × (head_of (table_of l) id ≡ some (head_at l (replica_slot i)))
+pub slot_held : (l : List ℕ) (id i : ℕ) → slot_of l id ≡ Some i → (i < 64) × (head_of (table_of l) id ≡ some (head_at l (replica_slot i)))
 slot_held l id i e =
     let p = found_head l (replicas_used l) id i refl (slot_found l id i e).1 in
     (omega (arith, p.0, few_replicas l), p.1)
 
-pub slot_none : (l : List ℕ) (id : ℕ) → Bytes l → slot_of l id ≡ Nothing → head_of (table_of l) id ≡ none
+pub slot_none : (l : List ℕ) (id : ℕ) → Bytes l → slot_of l id ≡ None → head_of (table_of l) id ≡ none
 slot_none l id b e = go (ltb 4294967295 id) refl e
   where
-    go : (z : Bool) → ltb 4294967295 id ≡ z → cond z Nothing (first_replica l (replicas_used l) id) ≡ Nothing → head_of (table_of l) id ≡ none
+    go : (z : Bool) → ltb 4294967295 id ≡ z → cond z None (first_replica l (replicas_used l) id) ≡ None → head_of (table_of l) id ≡ none
     go true q r = not_an_id l id b (ltb-true 4294967295 id q)
     go false q r = not_found l (replicas_used l) id refl r
 

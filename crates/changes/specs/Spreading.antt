@@ -1,5 +1,5 @@
 -- Spread: the refusals, and the head that is put. Assumes nothing.
-use Rattle.std.specs.Prelude.{◌≡◌, true, ◌||◌, ℕ, ltb, length}
+use Rattle.std.specs.Prelude.{◌≡◌, true, ◌||◌, ℕ, ltb, length, Some}
 use Rattle.std.proofs.Math.Path.{refl, ap, sym, subst}
 use Rattle.std.proofs.Common.{◌∙◌, arith}
 use Rattle.std.proofs.Math.Bool.{false, not}
@@ -19,7 +19,6 @@ use Rattle.steps.specs.Standing.{Is, stands}
 use Rattle.steps.specs.Putting.{has_slot}
 use Rattle.steps.specs.Grown.{Grown, grown_refl, grown_put}
 use Rattle.changes.specs.Finishing.{Ends, ended, skip, stop}
-use Rattle.table.specs.declared.find.Found.TheVariants.{At}
 use Rattle.changes.specs.Looking.{slot_of}
 use Rattle.changes.specs.Killing.{takes}
 
@@ -80,7 +79,7 @@ module _ {l : List ℕ} {set : ℕ} {h : Head} (k : Spreads l set h) where
 
 -- what was read where the number was found
 pub spreads : (l : List ℕ) (id set : ℕ) {i : ℕ} {h : Head} → sound_bytes l ≡ true → is_set (table_of l).nodes set ≡ true →
-    slot_of l id ≡ At i → h ≡ head_at l (replica_slot i) → Spreads l set h × (h.id ≡ id)
+    slot_of l id ≡ Some i → h ≡ head_at l (replica_slot i) → Spreads l set h × (h.id ≡ id)
 spreads l id set {i} {h} s good e r =
     let k = takes l id 0 s (omega arith) e r in
     (record { sound = s; good = good; held = k.0.held }, k.1)

@@ -14,7 +14,6 @@ use numbers::nodes;
 use records::Head;
 use steps::state;
 use table::find;
-use table::find::Found;
 
 // The first head of a replica in the directory.
 fn born(kind: u8, id: u32, stamp: u64, holders: u8, p: Head, name: Name) -> Head
@@ -122,7 +121,7 @@ pub fn create(
         };
     }
     let found = look::slot_of(table, directory);
-    let Found::At(i) = found else {
+    let Some(i) = found else {
         return Answer {
             number: 6,
             value: 0,

@@ -7,15 +7,14 @@ ghost use Rattle.changes.specs.Looking.{is_taken_by, is_shown_in, is_child_of, s
 
 use names::Name;
 use table::find;
-use table::find::Found;
 
 // The slot of the replica that a caller's number names.
-pub fn slot_of(t: &[u8], id: u64) -> Found
+pub fn slot_of(t: &[u8], id: u64) -> Option<usize>
     requires { 13344 ≤ length t.now }
     ensures { result ≡ slot_of t.now id }
 {
     if 4294967295 < id {
-        return Found::Nothing;
+        return None;
     }
     find::replica(t, find::replicas_used(t), id as u32)
 }

@@ -11,7 +11,6 @@ use crate::{look, unlink};
 use answers::Answer;
 use records::Head;
 use table::find;
-use table::find::Found;
 
 // Removes the directory.
 pub fn remove(table: &mut [u8], time: u64, id: u64) -> Answer
@@ -26,7 +25,7 @@ pub fn remove(table: &mut [u8], time: u64, id: u64) -> Answer
         };
     }
     let found = look::slot_of(table, id);
-    let Found::At(i) = found else {
+    let Some(i) = found else {
         return Answer {
             number: 6,
             value: 0,

@@ -13,7 +13,6 @@ use names::Name;
 use records::Head;
 use steps::state;
 use table::find;
-use table::find::Found;
 
 // The head at another place, with the stamp.
 fn placed(h: Head, p: Head, name: Name, stamp: u64) -> Head
@@ -108,14 +107,14 @@ pub fn rename(table: &mut [u8], time: u64, id: u64, directory: u64, name: &[u8])
         };
     }
     let found = look::slot_of(table, id);
-    let Found::At(i) = found else {
+    let Some(i) = found else {
         return Answer {
             number: 6,
             value: 0,
         };
     };
     let there = look::slot_of(table, directory);
-    let Found::At(j) = there else {
+    let Some(j) = there else {
         return Answer {
             number: 6,
             value: 0,

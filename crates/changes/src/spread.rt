@@ -12,7 +12,6 @@ use answers::Answer;
 use numbers::nodes;
 use records::Head;
 use steps::{put, state};
-use table::find::Found;
 
 // Spreads what is held.
 fn spread_held(table: &mut [u8], set: u8, h: Head) -> Answer
@@ -41,7 +40,7 @@ pub fn spread(table: &mut [u8], id: u64, set: u64) -> Answer
         };
     }
     let found = look::slot_of(table, id);
-    let Found::At(i) = found else {
+    let Some(i) = found else {
         return Answer {
             number: 6,
             value: 0,

@@ -11,7 +11,6 @@ use crate::{finish, look};
 use answers::Answer;
 use records::Head;
 use steps::state;
-use table::find::Found;
 
 // The head with another state: dead, with the stamp.
 fn dead(h: Head, stamp: u64) -> Head
@@ -54,7 +53,7 @@ pub fn unlink(table: &mut [u8], time: u64, id: u64) -> Answer
         };
     }
     let found = look::slot_of(table, id);
-    let Found::At(i) = found else {
+    let Some(i) = found else {
         return Answer {
             number: 6,
             value: 0,

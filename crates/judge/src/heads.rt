@@ -12,7 +12,6 @@ use records::Head;
 use slots::TableHeader;
 use steps::state;
 use table::find;
-use table::find::Found;
 
 // Whether a directory has the place and the depth that the table has for it.
 fn is_steady(h: Head, o: Head) -> bool
@@ -62,7 +61,7 @@ fn agrees(t: &[u8], m: usize, h: Head) -> bool
     ensures { result ≡ head_agrees (table_of t.now) h }
 {
     let found = find::replica(t, m, h.id);
-    let Found::At(i) = found else {
+    let Some(i) = found else {
         return is_foreign(t, h.id);
     };
     is_like(h, Head::read(t, 32 + 48 * i))

@@ -12,7 +12,6 @@ use slots::Listed;
 use steps::join::Joined;
 use steps::{join, state};
 use table::find;
-use table::find::Found;
 
 // Whether the entry meets none with its stamp and another flag.
 fn agrees(t: &[u8], k: usize, x: Listed) -> bool
@@ -53,7 +52,7 @@ fn made_agrees(t: &[u8], m: usize, k: usize, h: Head) -> bool
     ensures { result ≡ made_agrees (table_of t.now) h }
 {
     let found = find::replica(t, m, h.id);
-    let Found::Nothing = found else {
+    let None = found else {
         return true;
     };
     agrees(t, k, state::place_entry(h))
@@ -96,7 +95,7 @@ pub fn first_agrees(t: &[u8], m: usize, k: usize, h: Head) -> bool
     ensures { result ≡ first_agrees (table_of t.now) h }
 {
     let found = find::replica(t, m, h.id);
-    let Found::At(i) = found else {
+    let Some(i) = found else {
         return agrees(t, k, state::place_entry(h));
     };
     let old = Head::read(t, 32 + 48 * i);

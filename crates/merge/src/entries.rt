@@ -16,7 +16,6 @@ use records::{Entry, Head};
 use slots::Listed;
 use steps::{join, state};
 use table::find;
-use table::find::Found;
 
 // Joins the entries of the message, in order. False if there is no room.
 fn join_entries(t: &mut [u8], message: &[u8]) -> bool
@@ -48,7 +47,7 @@ fn set_if_made(old: &[u8], t: &mut [u8], h: Head) -> bool
     ensures { Made result t.new (setting (table_of old.now) h (table_of t.old)) }
 {
     let found = find::replica(old, find::replicas_used(old), h.id);
-    let Found::Nothing = found else {
+    let None = found else {
         return true;
     };
     join::set(t, state::place_entry(h))
@@ -82,7 +81,7 @@ fn set_if_taken(old: &[u8], t: &mut [u8], h: Head) -> bool
         (join_all (set_if_taken (head_of (table_of old.now) h.id) h) (table_of t.old)) }
 {
     let found = find::replica(old, find::replicas_used(old), h.id);
-    let Found::At(i) = found else {
+    let Some(i) = found else {
         return join::set(t, state::place_entry(h));
     };
     let was = Head::read(old, 32 + 48 * i);

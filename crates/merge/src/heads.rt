@@ -17,7 +17,6 @@ use records::Head;
 use steps::put;
 use steps::state::with_holders;
 use table::find;
-use table::find::Found;
 
 // The head with the own node among its holders.
 fn with_own(t: &[u8], h: Head) -> Head
@@ -34,7 +33,7 @@ fn make_missing(t: &mut [u8], h: Head) -> bool
     ensures { Made result t.new (missing h (table_of t.old)) }
 {
     let found = find::replica(t, find::replicas_used(t), h.id);
-    let Found::Nothing = found else {
+    let None = found else {
         return true;
     };
     let new = with_own(t, h);
@@ -65,7 +64,7 @@ fn merged(t: &[u8], h: Head) -> Head
     ensures { result ≡ merged (head_of (table_of t.now) h.id) h (table_of t.now) }
 {
     let found = find::replica(t, find::replicas_used(t), h.id);
-    let Found::At(i) = found else {
+    let Some(i) = found else {
         return with_own(t, h);
     };
     let old = Head::read(t, 32 + 48 * i);

@@ -14,7 +14,6 @@ ghost use Rattle.merge.specs.Live.{Lights, Mends, Revives, live_over};
 use records::Head;
 use steps::state;
 use table::find;
-use table::find::Found;
 
 // The head, live and with a new stamp.
 fn with_stamp(h: Head, stamp: u64) -> Head
@@ -39,7 +38,7 @@ fn is_dead(t: &[u8], id: u32) -> bool
     ensures { result ≡ is_dead (head_of (table_of t.now) id) }
 {
     let found = find::replica(t, find::replicas_used(t), id);
-    let Found::At(i) = found else {
+    let Some(i) = found else {
         return false;
     };
     Head::read(t, 32 + 48 * i).live != 1
@@ -51,7 +50,7 @@ fn directory_of(t: &[u8], id: u32) -> u32
     ensures { result ≡ directory_of (head_of (table_of t.now) id) }
 {
     let found = find::replica(t, find::replicas_used(t), id);
-    let Found::At(i) = found else {
+    let Some(i) = found else {
         return 0;
     };
     Head::read(t, 32 + 48 * i).directory
@@ -64,7 +63,7 @@ fn revive(t: &mut [u8], id: u32, time: u64) -> bool
         (relive time (head_of (table_of t.old) id) (table_of t.old)) }
 {
     let found = find::replica(t, find::replicas_used(t), id);
-    let Found::At(i) = found else {
+    let Some(i) = found else {
         return true;
     };
     let h = Head::read(t, 32 + 48 * i);
@@ -107,7 +106,7 @@ fn mend(t: &mut [u8], id: u32, time: u64) -> bool
         (mend time (head_of (table_of t.old) id) (table_of t.old)) }
 {
     let found = find::replica(t, find::replicas_used(t), id);
-    let Found::At(i) = found else {
+    let Some(i) = found else {
         return true;
     };
     let h = Head::read(t, 32 + 48 * i);

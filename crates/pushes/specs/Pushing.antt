@@ -1,6 +1,6 @@
 -- The push of a held replica, in its parts: the header that is told from the table, the room that it takes, and what is
 -- written part by part. What the proofs of `pushes::write` cite. Assumes nothing.
-use Rattle.std.specs.Prelude.{◌≡◌, List, ◌++◌, ℕ, suc, ◌+◌, ◌*◌, ◌≤◌, ◌<◌, max}
+use Rattle.std.specs.Prelude.{◌≡◌, List, ◌++◌, ℕ, suc, ◌+◌, ◌*◌, ◌≤◌, ◌<◌, max, Some}
 use Rattle.std.proofs.Math.Path.{refl, ap, sym}
 use Rattle.std.proofs.Common.{subst, ◌∙◌, append_assoc, zero-add, arith, length-append}
 use Rattle.std.proofs.Math.Option.{some}
@@ -19,7 +19,6 @@ use Rattle.document.specs.Messages.{Push, header_of_push, message_bytes, chain_u
 use Rattle.document.specs.ReadingMessages.{length_message_bytes}
 use Rattle.document.specs.Rows.{rows_length}
 use Rattle.document.specs.Reading.{own_at, sound_length}
-use Rattle.table.specs.declared.find.Found.TheVariants.{At}
 use Rattle.table.specs.Slots.{entries_in, first_replica, entries_count, found_slot}
 use Rattle.views.specs.Puts.{find_id}
 use Rattle.views.specs.Sounds.{Sound, sound_table}
@@ -122,7 +121,7 @@ module _ (l : List ℕ) (r : Replica) (header : PushHeader) (room : ℕ) (w : Wr
 
 -- ---- what a caller has: the slot that was found, the room that a header says, and what `write` asks
 
-pub replica_found : (l : List ℕ) (m id i : ℕ) → m ≡ replicas_used l → first_replica l m id ≡ At i →
+pub replica_found : (l : List ℕ) (m id i : ℕ) → m ≡ replicas_used l → first_replica l m id ≡ Some i →
     (i < m) × ((replica_in l i).head.id ≡ id) × (find id (table_of l).replicas ≡ some (replica_in l i))
 unfolding table_of
 replica_found l m id i e f =

@@ -11,7 +11,6 @@ use messages::PushHeader;
 use records::{Entry, Head};
 use slots::Replica;
 use table::find;
-use table::find::Found;
 
 // How many heads the push of a replica at that depth has.
 pub fn head_count(depth: u8) -> u8
@@ -39,7 +38,7 @@ fn write_above(t: &[u8], most: usize, directory: u32, out: &mut [u8])
             return;
         }
         let found = find::replica(t, m, d);
-        let Found::At(s) = found else {
+        let Some(s) = found else {
             return;
         };
         let h = Head::read(t, 32 + 48 * s);

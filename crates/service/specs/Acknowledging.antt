@@ -1,6 +1,6 @@
 -- The acknowledgement's refusals, number by number, and what is done where none holds: what the contracts of
 -- `service::acknowledged` cite. Assumes nothing.
-use Rattle.std.specs.Prelude.{◌≡◌, refl, Bool, true, false, ◌&&◌, not, cond, List, [], ◌∷◌, ℕ, zero, suc, ◌+◌, ◌-◌, ◌≤◌, ◌<◌, eqb, length, set}
+use Rattle.std.specs.Prelude.{◌≡◌, refl, Bool, true, false, ◌&&◌, not, cond, List, [], ◌∷◌, ℕ, zero, suc, ◌+◌, ◌-◌, ◌≤◌, ◌<◌, eqb, length, set, Some, None}
 use Rattle.std.proofs.Common.{ap, sym, ◌∙◌, arith, eqb-true, eq-eqb, ne_eqb}
 use Rattle.std.proofs.Math.Option.{some, none}
 use Rattle.std.proofs.Math.Nat.{sub-zero}
@@ -21,7 +21,6 @@ use Rattle.document.specs.Messages.{read_ack}
 use Rattle.document.specs.Outcomes.{refused, done, judged}
 use Rattle.document.specs.Calls.{if_ack, clear, clear_in, acknowledged}
 use Rattle.document.specs.Reading.{sound_length}
-use Rattle.table.specs.declared.find.Found.TheVariants.{At, Nothing}
 use Rattle.table.specs.Slots.{first_slot, first_replica, found_slot, no_slot}
 use Rattle.answers.specs.Answers.{is_sound}
 use Rattle.steps.specs.Standing.{sound_stands}
@@ -82,7 +81,7 @@ clear_others x id node (y ∷ ys) e h =
     simp (other, clear_others x id node ys e p.1)
 
 -- the slot that is found is the one that is cleared
-clear_found : (id node : ℕ) (g : ℕ → Replica) (s n i : ℕ) → first_slot (λ (k : ℕ). has_id id (g k)) s n ≡ At i →
+clear_found : (id node : ℕ) (g : ℕ → Replica) (s n i : ℕ) → first_slot (λ (k : ℕ). has_id id (g k)) s n ≡ Some i →
     distinct same_id (slots_from g s n) ≡ true →
     clear id node (slots_from g s n) ≡ set (slots_from g s n) (i - s) (with_pending (g i) (without (g i).pending node))
 unfolding clear first_slot slots_from distinct
@@ -95,9 +94,9 @@ clear_found id node g s (suc n) i e d =
     new : ℕ → Replica
     new k = with_pending (g k) (without (g k).pending node)
 
-    go : (b : Bool) → has_id id (g s) ≡ b → cond b (At s) (first_slot (λ (k : ℕ). has_id id (g k)) (suc s) n) ≡ At i →
-        (first_slot (λ (k : ℕ). has_id id (g k)) (suc s) n ≡ At i → suc s ≤ i) →
-        (first_slot (λ (k : ℕ). has_id id (g k)) (suc s) n ≡ At i →
+    go : (b : Bool) → has_id id (g s) ≡ b → cond b (Some s) (first_slot (λ (k : ℕ). has_id id (g k)) (suc s) n) ≡ Some i →
+        (first_slot (λ (k : ℕ). has_id id (g k)) (suc s) n ≡ Some i → suc s ≤ i) →
+        (first_slot (λ (k : ℕ). has_id id (g k)) (suc s) n ≡ Some i →
         clear id node (slots_from g (suc s) n) ≡ set (slots_from g (suc s) n) (i - suc s) (new i)) →
         every (λ (y : Replica). not (same_id (g s) y)) (slots_from g (suc s) n) ≡ true →
         cond b (new s) (g s) ∷ clear id node (slots_from g (suc s) n) ≡ set (g s ∷ slots_from g (suc s) n) (i - s) (new i)
@@ -112,7 +111,7 @@ clear_found id node g s (suc n) i e d =
         ∙ ap (λ (k : ℕ). set (g s ∷ slots_from g (suc s) n) k (new i)) {x = suc (i - suc s)} {y = i - s} (omega arith)
 
 -- the byte that is written there, in a sound table
-cleared : (l : List ℕ) (id node i : ℕ) → sound_bytes l ≡ true → Bytes l → first_replica l (replicas_used l) id ≡ At i →
+cleared : (l : List ℕ) (id node i : ℕ) → sound_bytes l ≡ true → Bytes l → first_replica l (replicas_used l) id ≡ Some i →
     splice l (replica_slot i + 44) (without (replica_in l i).pending node ∷ [])
     ≡ table_bytes (with_replicas (table_of l) (clear id node (table_of l).replicas))
 unfolding sound_bytes rules table_of
@@ -130,7 +129,7 @@ cleared l id node i s y e =
 pub record Clears (l : List ℕ) (a : Acknowledgement) (i : ℕ) : Type 0 where
   pub sound : sound_bytes l ≡ true
   pub own : a.addressee ≡ (table_of l).own
-  pub found : first_replica l (replicas_used l) a.id ≡ At i
+  pub found : first_replica l (replicas_used l) a.id ≡ Some i
 
 module _ {l : List ℕ} {a : Acknowledgement} {i : ℕ} (k : Clears l a i) where
   -- the slot lies within the table
@@ -179,7 +178,7 @@ module _ {l : List ℕ} {a : Acknowledgement} {i : ℕ} (k : Clears l a i) where
 -- ---- whose table it is, and the message's fields, read in place
 
 -- the id is not held
-pub not_found : (l : List ℕ) (id : ℕ) → first_replica l (replicas_used l) id ≡ Nothing →
+pub not_found : (l : List ℕ) (id : ℕ) → first_replica l (replicas_used l) id ≡ None →
     find id (table_of l).replicas ≡ none
 unfolding table_of
 not_found l id e = no_slot (has_id id) (replica_in l) 0 (replicas_used l) e

@@ -11,7 +11,6 @@ use answers::Answer;
 use messages::Acknowledgement;
 use numbers::nodes;
 use table::find;
-use table::find::Found;
 
 // Whether the message is an acknowledgement in a cluster of n nodes.
 fn is_acknowledgement(message: &[u8], n: u8) -> bool
@@ -66,7 +65,7 @@ fn clear(table: &mut [u8], a: Acknowledgement) -> Answer
         };
     }
     let found = find::replica(table, find::replicas_used(table), a.id);
-    let Found::At(i) = found else {
+    let Some(i) = found else {
         return Answer {
             number: 6,
             value: 0,

@@ -13,7 +13,6 @@ use answers::Answer;
 use changes::look;
 use records::{Entry, Head};
 use table::find;
-use table::find::Found;
 
 // How many of k entry slots are live entries of the directory.
 fn shown_in(t: &[u8], k: usize, directory: u32) -> usize
@@ -115,7 +114,7 @@ pub fn list(table: &[u8], id: u64, out: &mut [u8]) -> Answer
         };
     }
     let found = look::slot_of(table, id);
-    let Found::At(s) = found else {
+    let Some(s) = found else {
         return Answer {
             number: 6,
             value: 0,

@@ -11,7 +11,6 @@ use changes::look;
 use numbers::nodes;
 use pushes::write;
 use slots::Replica;
-use table::find::Found;
 
 // Pushes a held replica to another node.
 fn push_held(t: &[u8], r: Replica, node: u8, out: &mut [u8]) -> Answer
@@ -63,7 +62,7 @@ pub fn push(table: &[u8], id: u64, node: u64, out: &mut [u8]) -> Answer
         };
     }
     let found = look::slot_of(table, id);
-    let Found::At(s) = found else {
+    let Some(s) = found else {
         return Answer {
             number: 6,
             value: 0,

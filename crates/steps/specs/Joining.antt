@@ -1,6 +1,6 @@
 -- The join of an entry: what it comes to, what each case means, whether there is room, and what its bytes make of the
 -- table. Assumes nothing.
-use Rattle.std.specs.Prelude.{◌≡◌, refl, Bool, true, false, ◌&&◌, ◌||◌, not, cond, List, [], ◌∷◌, ◌++◌, ℕ, zero, suc, ◌-◌, ◌≤◌, ◌<◌, eqb, ltb, length, set}
+use Rattle.std.specs.Prelude.{◌≡◌, refl, Bool, true, false, ◌&&◌, ◌||◌, not, cond, List, [], ◌∷◌, ◌++◌, ℕ, zero, suc, ◌-◌, ◌≤◌, ◌<◌, eqb, ltb, length, set, Option as Slot, Some, None}
 use Rattle.std.proofs.Common.{ap, sym, subst, ◌∙◌, arith, length-set, length-append, eqb-true, eq-eqb, ne_eqb, lt-ltb, le-ltb, ltb-true}
 use Rattle.std.proofs.Math.Option.{Option, some, none}
 use Rattle.std.proofs.Math.Nat.{sub-zero}
@@ -14,8 +14,6 @@ use Rattle.document.specs.Tables.{Table, find_entry, entry_of?, entry_of, entrie
 use Rattle.document.specs.Sound.{same_key}
 use Rattle.document.specs.Steps.{newer, join_into, joined, at_odds, odd_join}
 use Rattle.document.specs.Reading.{few_replicas, few_entries}
-use Rattle.table.specs.declared.find.Found.{Found}
-use Rattle.table.specs.declared.find.Found.TheVariants.{At, Nothing}
 use Rattle.table.specs.Slots.{first_slot, first_entry, entries_in, entries_count, found_slot, no_slot}
 use Rattle.steps.specs.declared.join.Joined.{Joined}
 use Rattle.steps.specs.declared.join.Joined.TheVariants.{Added, Replaced, Same, AtOdds}
@@ -29,9 +27,9 @@ meets x y s =
     (cond (at_odds x (some y.entry)) AtOdds Same)
 
 -- what a join comes to, by the slot in which the key was found
-abbrev pub joined_at : Found → (ℕ → Listed) → Listed → Joined
-joined_at Nothing g x = Added
-joined_at (At s) g x = meets x (g s) s
+abbrev pub joined_at : Slot ℕ → (ℕ → Listed) → Listed → Joined
+joined_at None g x = Added
+joined_at (Some s) g x = meets x (g s) s
 
 abbrev pub joined_in : List ℕ → ℕ → Listed → Joined
 joined_in l k x = joined_at (first_entry l k x.directory x.entry.child x.entry.name) (entry_in l) x
@@ -69,7 +67,7 @@ pub join_none : (x : Listed) (es : List Listed) → find_entry x.directory x.ent
 unfolding join_into
 join_none x = into_none (same_key x) (newer x) x (join_into x) refl (λ y ys. refl)
 
-pub join_found : (x : Listed) (g : ℕ → Listed) (s n i : ℕ) → first_slot (λ (k : ℕ). same_key x (g k)) s n ≡ At i →
+pub join_found : (x : Listed) (g : ℕ → Listed) (s n i : ℕ) → first_slot (λ (k : ℕ). same_key x (g k)) s n ≡ Some i →
     join_into x (slots_from g s n) ≡ set (slots_from g s n) (i - s) (newer x (g i))
 unfolding join_into
 join_found x = into_found (same_key x) (newer x) x (join_into x) refl (λ y ys. refl)
@@ -155,17 +153,17 @@ meets_not_added x y s e = go (ltb y.entry.stamp x.entry.stamp) (at_odds x (some 
 
 -- ---- where the key stands, or that it does not
 
-key_there : (l : List ℕ) (x : Listed) (i : ℕ) → first_entry l (entries_used l) x.directory x.entry.child x.entry.name ≡ At i →
+key_there : (l : List ℕ) (x : Listed) (i : ℕ) → first_entry l (entries_used l) x.directory x.entry.child x.entry.name ≡ Some i →
     find_entry x.directory x.entry.child x.entry.name (table_of l).entries ≡ some (entry_in l i)
 unfolding table_of
 key_there l x i e = (found_slot (same_key x) (entry_in l) 0 (entries_used l) i e).2
 
-key_absent : (l : List ℕ) (x : Listed) → first_entry l (entries_used l) x.directory x.entry.child x.entry.name ≡ Nothing →
+key_absent : (l : List ℕ) (x : Listed) → first_entry l (entries_used l) x.directory x.entry.child x.entry.name ≡ None →
     find_entry x.directory x.entry.child x.entry.name (table_of l).entries ≡ none
 unfolding table_of
 key_absent l x e = no_slot (same_key x) (entry_in l) 0 (entries_used l) e
 
-key_found : (l : List ℕ) (x : Listed) (i : ℕ) → first_entry l (entries_used l) x.directory x.entry.child x.entry.name ≡ At i →
+key_found : (l : List ℕ) (x : Listed) (i : ℕ) → first_entry l (entries_used l) x.directory x.entry.child x.entry.name ≡ Some i →
     join_into x (table_of l).entries ≡ set (table_of l).entries i (newer x (entry_in l i))
 unfolding table_of
 key_found l x i e =
@@ -180,7 +178,7 @@ key_unset l i =
     ∙ set_same (entry_in l) 0 (entries_used l) i (omega arith)
 
 module _ {l : List ℕ} (k : Stands l) (b : Bytes l) (x : Listed) (f : ListedFit x) where
-  abbrev slot : Found
+  abbrev slot : Slot ℕ
   slot = first_entry l (entries_used l) x.directory x.entry.child x.entry.name
 
   wide_join : length (join_into x (table_of l).entries) ≤ 256 → Wide (joined x (table_of l))
@@ -195,7 +193,7 @@ module _ {l : List ℕ} (k : Stands l) (b : Bytes l) (x : Listed) (f : ListedFit
       }
 
   -- where the key stands
-  found : (i : ℕ) → slot ≡ At i →
+  found : (i : ℕ) → slot ≡ Some i →
       (i < entries_used l) × (true ≡ has_room x (table_of l))
       × (join_into x (table_of l).entries ≡ set (table_of l).entries i (newer x (entry_in l i)))
   found i e =
@@ -206,7 +204,7 @@ module _ {l : List ℕ} (k : Stands l) (b : Bytes l) (x : Listed) (f : ListedFit
       )
 
   -- it replaces what it meets, or leaves it
-  replaced : (i : ℕ) → slot ≡ At i → (older : Bool) → ltb (entry_in l i).entry.stamp x.entry.stamp ≡ older →
+  replaced : (i : ℕ) → slot ≡ Some i → (older : Bool) → ltb (entry_in l i).entry.stamp x.entry.stamp ≡ older →
       Is (cond older (splice l (entry_slot i) (listed_bytes x)) l) (joined x (table_of l))
   replaced i e true q =
       let p = found i e in
@@ -228,7 +226,7 @@ module _ {l : List ℕ} (k : Stands l) (b : Bytes l) (x : Listed) (f : ListedFit
       (slot_of o < 256) × (true ≡ has_room x (table_of l)) × Is (bytes_after o x l) (joined x (table_of l))
   joins_there o e n = go slot refl e
     where
-      at : (i : ℕ) → slot ≡ At i → (older odd : Bool) → ltb (entry_in l i).entry.stamp x.entry.stamp ≡ older →
+      at : (i : ℕ) → slot ≡ Some i → (older odd : Bool) → ltb (entry_in l i).entry.stamp x.entry.stamp ≡ older →
           o ≡ cond older (Replaced i) (cond odd AtOdds Same) →
           (slot_of o < 256) × (true ≡ has_room x (table_of l)) × Is (bytes_after o x l) (joined x (table_of l))
       at i f true odd q z =
@@ -244,19 +242,19 @@ module _ {l : List ℕ} (k : Stands l) (b : Bytes l) (x : Listed) (f : ListedFit
           subst (λ (u : Joined). (slot_of u < 256) × (true ≡ has_room x (table_of l)) × Is (bytes_after u x l) (joined x (table_of l)))
           (sym z) (omega arith, p.1, replaced i f false q)
 
-      go : (s : Found) → slot ≡ s → o ≡ joined_at s (entry_in l) x →
+      go : (s : Slot ℕ) → slot ≡ s → o ≡ joined_at s (entry_in l) x →
           (slot_of o < 256) × (true ≡ has_room x (table_of l)) × Is (bytes_after o x l) (joined x (table_of l))
-      go Nothing f z = absurd (n z)
-      go (At i) f z =
+      go None f z = absurd (n z)
+      go (Some i) f z =
           at i f (ltb (entry_in l i).entry.stamp x.entry.stamp) (at_odds x (some (entry_in l i).entry)) refl z
 
   -- it is added
   absent : Added ≡ joined_in l (entries_used l) x → find_entry x.directory x.entry.child x.entry.name (table_of l).entries ≡ none
   absent e = key_absent l x (go slot refl e)
     where
-      go : (s : Found) → slot ≡ s → Added ≡ joined_at s (entry_in l) x → slot ≡ Nothing
-      go Nothing f z = f
-      go (At i) f z = absurd (meets_not_added x (entry_in l i) i (sym z))
+      go : (s : Slot ℕ) → slot ≡ s → Added ≡ joined_at s (entry_in l) x → slot ≡ None
+      go None f z = f
+      go (Some i) f z = absurd (meets_not_added x (entry_in l i) i (sym z))
 
   pub room_for : Added ≡ joined_in l (entries_used l) x → is_room x.directory (table_of l) ≡ has_room x (table_of l)
   room_for e =
@@ -306,10 +304,10 @@ join_means l x = go (first_entry l (entries_used l) x.directory x.entry.child x.
     met i e u false true q = sym (e ∙ ap (λ (z : Bool). set (table_of l).entries i (cond z x (entry_in l i))) q ∙ u)
     met i e u false false q = sym (e ∙ ap (λ (z : Bool). set (table_of l).entries i (cond z x (entry_in l i))) q ∙ u)
 
-    go : (s : Found) → first_entry l (entries_used l) x.directory x.entry.child x.entry.name ≡ s →
+    go : (s : Slot ℕ) → first_entry l (entries_used l) x.directory x.entry.child x.entry.name ≡ s →
         entries_after (joined_at s (entry_in l) x) x (table_of l).entries ≡ join_into x (table_of l).entries
-    go Nothing f = sym (join_none x (table_of l).entries (key_absent l x f))
-    go (At i) f =
+    go None f = sym (join_none x (table_of l).entries (key_absent l x f))
+    go (Some i) f =
         met i (key_found l x i f) (key_unset l i) (ltb (entry_in l i).entry.stamp x.entry.stamp)
         (at_odds x (some (entry_in l i).entry)) refl
 
@@ -328,10 +326,10 @@ join_refused l x = go (first_entry l (entries_used l) x.directory x.entry.child 
     met i false p true q false = refl
     met i false p false q flag = refl
 
-    go : (s : Found) → first_entry l (entries_used l) x.directory x.entry.child x.entry.name ≡ s →
+    go : (s : Slot ℕ) → first_entry l (entries_used l) x.directory x.entry.child x.entry.name ≡ s →
         refusal_of (joined_at s (entry_in l) x) ≡ cond (odd_join x (table_of l)) 13 0
-    go Nothing f = ap (λ (o : Option Listed). cond (at_odds x (entry_of? o)) 13 0) (sym (key_absent l x f))
-    go (At i) f =
+    go None f = ap (λ (o : Option Listed). cond (at_odds x (entry_of? o)) 13 0) (sym (key_absent l x f))
+    go (Some i) f =
         met i (ltb (entry_in l i).entry.stamp x.entry.stamp) refl
         (eqb (entry_in l i).entry.stamp x.entry.stamp) refl
         (not (eqb (entry_in l i).entry.live x.entry.live))

@@ -1,5 +1,5 @@
 -- A head that is put: whether there is a slot for it, and what its bytes make of the table. Assumes nothing.
-use Rattle.std.specs.Prelude.{◌≡◌, refl, Bool, true, false, ◌||◌, cond, ℕ, ◌-◌, ◌≤◌, ◌<◌, eqb}
+use Rattle.std.specs.Prelude.{◌≡◌, refl, Bool, true, false, ◌||◌, cond, ℕ, ◌-◌, ◌≤◌, ◌<◌, eqb, Some, None}
 use Rattle.std.proofs.Math.Path.{ap}
 use Rattle.std.proofs.Common.{sym, ◌∙◌, arith, length-append, lt-ltb, le-ltb}
 use Rattle.std.proofs.Math.Option.{Option, none}
@@ -16,7 +16,6 @@ use Rattle.document.specs.Tables.{Table, has_id, find, head_of?, head_of, slots_
 use Rattle.document.specs.Sound.{is_held}
 use Rattle.document.specs.Steps.{put_head, put, renewed}
 use Rattle.document.specs.Reading.{few_replicas}
-use Rattle.table.specs.declared.find.Found.TheVariants.{At, Nothing}
 use Rattle.table.specs.Slots.{first_replica, found_slot, no_slot, first_slot}
 use Rattle.steps.specs.Standing.{Each, end, more, Wide, Is, Stands, wide_of, wide_is, replicas_held}
 use Rattle.steps.specs.Writes.{head_rewritten, replica_added, into_none, into_found}
@@ -35,7 +34,7 @@ pub put_none : (h : Head) (rs : List Replica) → find h.id rs ≡ none → put_
 unfolding put_head
 put_none h = into_none (has_id h.id) (renewed h) (new_replica h) (put_head h) refl (λ r rs. refl)
 
-pub put_found : (h : Head) (g : ℕ → Replica) (s n i : ℕ) → first_slot (λ (k : ℕ). has_id h.id (g k)) s n ≡ At i →
+pub put_found : (h : Head) (g : ℕ → Replica) (s n i : ℕ) → first_slot (λ (k : ℕ). has_id h.id (g k)) s n ≡ Some i →
     put_head h (slots_from g s n) ≡ set (slots_from g s n) (i - s) (renewed h (g i))
 unfolding put_head
 put_found h = into_found (has_id h.id) (renewed h) (new_replica h) (put_head h) refl (λ r rs. refl)
@@ -56,7 +55,7 @@ put_fits h (r ∷ rs) f (more p ps) = go (eqb r.head.id h.id) (put_fits h rs f p
 pub record Adds (l : List ℕ) (m : ℕ) (h : Head) : Type 0 where
   pub stands : Stands l
   pub used : m ≡ replicas_used l
-  pub absent : first_replica l (replicas_used l) h.id ≡ Nothing
+  pub absent : first_replica l (replicas_used l) h.id ≡ None
 
 module _ {l : List ℕ} (k : Stands l) (b : Bytes l) (h : Head) (f : HeadFit h) where
   wide_put : length (put_head h (table_of l).replicas) ≤ 64 → Wide (put h (table_of l))
@@ -71,7 +70,7 @@ module _ {l : List ℕ} (k : Stands l) (b : Bytes l) (h : Head) (f : HeadFit h) 
       }
 
   -- in place
-  pub put_at : (i : ℕ) → first_replica l (replicas_used l) h.id ≡ At i →
+  pub put_at : (i : ℕ) → first_replica l (replicas_used l) h.id ≡ Some i →
       (true ≡ has_slot h.id (table_of l)) × (i < 64) × Is (splice l (replica_slot i) (head_bytes h)) (put h (table_of l))
   unfolding table_of
   put_at i e =
@@ -86,20 +85,20 @@ module _ {l : List ℕ} (k : Stands l) (b : Bytes l) (h : Head) (f : HeadFit h) 
       )
 
   -- in the next slot
-  not_held_law : first_replica l (replicas_used l) h.id ≡ Nothing → find h.id (table_of l).replicas ≡ none
+  not_held_law : first_replica l (replicas_used l) h.id ≡ None → find h.id (table_of l).replicas ≡ none
   unfolding table_of
   not_held_law e = no_slot (has_id h.id) (replica_in l) 0 (replicas_used l) e
 
-  free_slot : first_replica l (replicas_used l) h.id ≡ Nothing → has_slot h.id (table_of l) ≡ ltb (replicas_used l) 64
+  free_slot : first_replica l (replicas_used l) h.id ≡ None → has_slot h.id (table_of l) ≡ ltb (replicas_used l) 64
   free_slot e =
       ap (λ (o : Option Replica). is_held (head_of? o) || ltb (length (table_of l).replicas) 64) (not_held_law e)
       ∙ ap (λ (m : ℕ). ltb m 64) (replicas_held l)
 
-  pub put_full : (m : ℕ) → m ≡ replicas_used l → first_replica l (replicas_used l) h.id ≡ Nothing → m ≡ 64 →
+  pub put_full : (m : ℕ) → m ≡ replicas_used l → first_replica l (replicas_used l) h.id ≡ None → m ≡ 64 →
       false ≡ has_slot h.id (table_of l)
   put_full m u e full = sym (free_slot e ∙ le-ltb (replicas_used l) 64 (omega arith))
 
-  pub put_next : (m : ℕ) → m ≡ replicas_used l → first_replica l (replicas_used l) h.id ≡ Nothing → m < 64 →
+  pub put_next : (m : ℕ) → m ≡ replicas_used l → first_replica l (replicas_used l) h.id ≡ None → m < 64 →
       (true ≡ has_slot h.id (table_of l))
       × Is (splice l (replica_slot m) (replica_bytes (new_replica h))) (put h (table_of l))
   put_next m u e free =

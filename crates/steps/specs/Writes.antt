@@ -1,7 +1,7 @@
 -- The bytes of a table after a write: the header, a used slot, the next slot, or the pending set in a replica slot.
 -- Each law says which table's bytes they then are. Assumes nothing.
 use Rattle.std.proofs.Math.Path.{◌≡◌, ap}
-use Rattle.std.specs.Prelude.{refl, Bool, length, take, drop}
+use Rattle.std.specs.Prelude.{refl, Bool, length, take, drop, Some}
 use Rattle.std.proofs.Common.{sym, ◌∙◌, add_assoc, add-zero, zero-add, mul-zero, mul-suc, mul-le-mul_left, arith, length-append, length-set, take-append-drop, drop_at, drop-drop, length-take-le}
 use Rattle.std.proofs.Math.Bool.{true, false, cond}
 use Rattle.std.proofs.Math.Option.{Option, some, none}
@@ -24,7 +24,6 @@ use Rattle.document.specs.Steps.{renewed}
 use Rattle.document.specs.Tables.{Table, slots_from, with_replicas, with_entries, header_of, rows, padded, table_bytes, replica_slot, entry_slot, replicas_used, entries_used, replica_in, table_of, first}
 use Rattle.document.specs.Rows.{Layout, length_rows, length_padded}
 use Rattle.document.specs.Reading.{few_replicas}
-use Rattle.table.specs.declared.find.Found.TheVariants.{At}
 use Rattle.table.specs.Slots.{first_slot, found_slot}
 use Rattle.steps.specs.Standing.{Stands, replicas_held, entries_held, replica_bytes_law}
 
@@ -278,7 +277,7 @@ module _ {A : Type 0} (test : A → Bool) (change : A → A) (new : A) (into : L
       go false q ih = ap (λ (z : List A). y ∷ z) (ih q)
 
   -- where they are slots, and one was found
-  pub into_found : (g : ℕ → A) (s n i : ℕ) → first_slot (λ (k : ℕ). test (g k)) s n ≡ At i →
+  pub into_found : (g : ℕ → A) (s n i : ℕ) → first_slot (λ (k : ℕ). test (g k)) s n ≡ Some i →
       into (slots_from g s n) ≡ set (slots_from g s n) (i - s) (change (g i))
   unfolding first_slot slots_from
   into_found g s zero i e = let z : ◌≡◌ {A = ℕ} 0 1 = cc in absurd (omega arith)
@@ -286,9 +285,9 @@ module _ {A : Type 0} (test : A → Bool) (change : A → A) (new : A) (into : L
       step (g s) (slots_from g (suc s) n)
       ∙ go (test (g s)) e (λ f. (found_slot test g (suc s) n i f).0) (into_found g (suc s) n i)
     where
-      go : (b : Bool) → cond b (At s) (first_slot (λ (k : ℕ). test (g k)) (suc s) n) ≡ At i →
-          (first_slot (λ (k : ℕ). test (g k)) (suc s) n ≡ At i → suc s ≤ i) →
-          (first_slot (λ (k : ℕ). test (g k)) (suc s) n ≡ At i →
+      go : (b : Bool) → cond b (Some s) (first_slot (λ (k : ℕ). test (g k)) (suc s) n) ≡ Some i →
+          (first_slot (λ (k : ℕ). test (g k)) (suc s) n ≡ Some i → suc s ≤ i) →
+          (first_slot (λ (k : ℕ). test (g k)) (suc s) n ≡ Some i →
           into (slots_from g (suc s) n) ≡ set (slots_from g (suc s) n) (i - suc s) (change (g i))) →
           cond b (change (g s) ∷ slots_from g (suc s) n) (g s ∷ into (slots_from g (suc s) n))
           ≡ set (g s ∷ slots_from g (suc s) n) (i - s) (change (g i))

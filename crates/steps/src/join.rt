@@ -8,7 +8,6 @@ ghost use Rattle.steps.specs.Joining.{Joins, meets, has_room, is_room, slot_of, 
 
 use slots::Listed;
 use table::find;
-use table::find::Found;
 
 // What a join comes to: the entry is added behind the others, or replaces the one in a slot, or finds
 // itself there, or a newer one; or stands with its stamp and another flag.
@@ -44,7 +43,7 @@ pub fn join(t: &[u8], k: usize, x: Listed) -> Joined
     ensures { Joins t.now x result }
 {
     let found = find::entry(t, k, x.directory, x.entry.child, x.entry.name);
-    let Found::At(s) = found else {
+    let Some(s) = found else {
         return Joined::Added;
     };
     meet(t, s, x)

@@ -9,7 +9,6 @@ ghost use Rattle.steps.specs.Putting.{has_slot, Adds};
 use records::Head;
 use slots::Replica;
 use table::find;
-use table::find::Found;
 
 // Puts the head. False if it is new and no slot is free: the copy is then of no use.
 pub fn put(t: &mut [u8], h: Head) -> bool
@@ -19,7 +18,7 @@ pub fn put(t: &mut [u8], h: Head) -> bool
 {
     let m = find::replicas_used(t);
     let found = find::replica(t, m, h.id);
-    let Found::At(i) = found else {
+    let Some(i) = found else {
         return add(t, m, h);
     };
     h.write(t, 32 + 48 * i);

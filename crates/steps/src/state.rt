@@ -13,7 +13,6 @@ use numbers::{Clock, ids};
 use records::{Entry, Head};
 use slots::{Listed, TableHeader};
 use table::find;
-use table::find::Found;
 
 // Draws the clock: the stamp of a new state.
 pub fn draw(t: &mut [u8], time: u64) -> u64
@@ -136,7 +135,7 @@ pub fn state(t: &mut [u8], h: Head) -> bool
     ensures { Made result t.new (stated h (table_of t.old)) }
 {
     let found = find::replica(t, find::replicas_used(t), h.id);
-    let Found::At(i) = found else {
+    let Some(i) = found else {
         return make(t, h);
     };
     let old = Head::read(t, 32 + 48 * i);

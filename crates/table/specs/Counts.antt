@@ -1,6 +1,6 @@
 -- The counts of entries: for each replica slot, how many entries are listed in it. What the contracts of `table::counts`
 -- cite. Assumes nothing.
-use Rattle.std.specs.Prelude.{◌≡◌, Bool, List, length, get_or, set}
+use Rattle.std.specs.Prelude.{◌≡◌, Bool, List, length, get_or, set, Some, None}
 use Rattle.std.proofs.Math.Path.{refl, ap}
 use Rattle.std.proofs.Common.{sym, ◌∙◌, true≢false, zero-add, add-one, length-set, get_or-set_same, get_or-set_other, eq-eqb, eqb-true}
 use Rattle.std.proofs.Math.Bool.{true, false, cond}
@@ -8,7 +8,6 @@ use Prim.Native.Nat.{ℕ, zero, suc, ◌+◌, ◌≤◌, ◌<◌}
 use native.Mathlib.Omega.{arith}
 use Rattle.codec.specs.Bytes.{zeros}
 use Rattle.document.specs.Tables.{has_id, replica_in, entry_in}
-use Rattle.table.specs.declared.find.Found.TheVariants.{At, Nothing}
 use Rattle.table.specs.Slots.{first_slot, first_replica, count_slots, is_listed_in, entries_in}
 use Rattle.table.specs.Rules.{ids_new}
 use Rattle.table.specs.Hints.{id_only}
@@ -27,21 +26,21 @@ Counted l m k counts = (length counts ≡ 64) × ((s : ℕ) → s < m → get_or
 -- ---- an entry is listed in the slot in which its directory is found, and in no other
 
 -- the slot found passes
-first_passes : (f : ℕ → Bool) (s n i : ℕ) → first_slot f s n ≡ At i → f i ≡ true
+first_passes : (f : ℕ → Bool) (s n i : ℕ) → first_slot f s n ≡ Some i → f i ≡ true
 unfolding first_slot
 first_passes f s zero i e = let z : ◌≡◌ {A = ℕ} 0 1 = cc in absurd (omega arith)
 first_passes f s (suc n) i e = go (f s) refl e (first_passes f (suc s) n i)
   where
-    go : (b : Bool) → f s ≡ b → cond b (At s) (first_slot f (suc s) n) ≡ At i → (first_slot f (suc s) n ≡ At i → f i ≡ true) → f i ≡ true
+    go : (b : Bool) → f s ≡ b → cond b (Some s) (first_slot f (suc s) n) ≡ Some i → (first_slot f (suc s) n ≡ Some i → f i ≡ true) → f i ≡ true
     go true z p ih = let q : s ≡ i = cc in ap f (sym q) ∙ z
     go false z p ih = ih p
 
 under_found : (l : List ℕ) (m i s : ℕ) → ids_new l m ≡ true → s < m → is_under l s i ≡ true →
-    first_replica l m (entry_in l i).directory ≡ At s
+    first_replica l m (entry_in l i).directory ≡ Some s
 under_found l m i s new h e =
     id_only l m (entry_in l i).directory s new h (eq-eqb _ _ (sym (eqb-true (entry_in l i).directory (replica_in l s).head.id e)))
 
-found_under : (l : List ℕ) (m i s : ℕ) → first_replica l m (entry_in l i).directory ≡ At s → is_under l s i ≡ true
+found_under : (l : List ℕ) (m i s : ℕ) → first_replica l m (entry_in l i).directory ≡ Some s → is_under l s i ≡ true
 found_under l m i s e =
     let has = first_passes (λ (j : ℕ). has_id (entry_in l i).directory (replica_in l j)) 0 m s e in
     eq-eqb _ _ (sym (eqb-true (replica_in l s).head.id (entry_in l i).directory has))
@@ -90,7 +89,7 @@ counted_none l m counts e = (ap length e, λ s p. ap (λ (c : List ℕ). get_or 
 
 -- no slot is the directory of entry slot i
 pub counted_other : (l : List ℕ) (m i : ℕ) (counts : List ℕ) → ids_new l m ≡ true →
-    first_replica l m (entry_in l i).directory ≡ Nothing → Counted l m i counts → Counted l m (i + 1) counts
+    first_replica l m (entry_in l i).directory ≡ None → Counted l m i counts → Counted l m (i + 1) counts
 counted_other l m i counts new found all = (all.0, λ s p. go s p (is_under l s i) refl)
   where
     go : (s : ℕ) → s < m → (b : Bool) → is_under l s i ≡ b → get_or counts s 0 ≡ entries_under l (i + 1) s
@@ -102,7 +101,7 @@ counted_other l m i counts new found all = (all.0, λ s p. go s p (is_under l s 
 
 -- slot q is
 pub counted_at : (l : List ℕ) (m i q : ℕ) (counts : List ℕ) → ids_new l m ≡ true → q < 64 →
-    first_replica l m (entry_in l i).directory ≡ At q → Counted l m i counts →
+    first_replica l m (entry_in l i).directory ≡ Some q → Counted l m i counts →
     Counted l m (i + 1) (set counts q (get_or counts q 0 + 1))
 counted_at l m i q counts new within found all =
     (length-set counts q (get_or counts q 0 + 1) ∙ all.0, λ s p. go s p (is_under l s i) refl)

@@ -1,6 +1,6 @@
 -- The rules of a sound table over slots: what the contracts of `table::rules` cite, and the laws that carry them to the
 -- lists of `document`. Assumes nothing.
-use Rattle.std.specs.Prelude.{◌≡◌, refl, Bool, ◌&&◌, ◌||◌, not, List, ℕ, zero, suc, ◌+◌, ◌-◌, ◌<◌, eqb, leb, ltb}
+use Rattle.std.specs.Prelude.{◌≡◌, refl, Bool, ◌&&◌, ◌||◌, not, List, ℕ, zero, suc, ◌+◌, ◌-◌, ◌<◌, eqb, leb, ltb, Some, None}
 use Rattle.std.proofs.Common.{ap, sym, ◌∙◌, arith, zero-add, lt-ltb}
 use Rattle.std.proofs.Math.Bool.{and_comm, and_assoc}
 use Rattle.std.proofs.Math.Option.{Option, some, none}
@@ -20,7 +20,6 @@ use Rattle.slots.specs.Replicas.{replica_fields}
 use Rattle.slots.specs.Listings.{listed_fields}
 use Rattle.document.specs.Tables.{Table, find, head_of?, find_entry, entry_of?, is_key, slots_from, every_slot, replica_slot, entry_slot, replica_in, entry_in, replicas_used, entries_used, table_of, head_of}
 use Rattle.document.specs.Sound.{distinct, same_id, same_key, root_in, is_root_id, is_live, held_and, is_place_of, shows, maker_holds, is_part_of, is_parent, replica_keeps, entry_keeps, rules}
-use Rattle.table.specs.declared.find.Found.TheVariants.{At, Nothing}
 use Rattle.table.specs.Slots.{first_replica, first_entry, found_slot, no_slot, every_slots, entries_in, entries_count}
 
 -- the table of the first m replica slots and the first k entry slots
@@ -66,21 +65,21 @@ slots_keep l m k =
 
 -- ---- laws: what was found, and what is the same
 
-pub held_at : (l : List ℕ) (m id i : ℕ) → first_replica l m id ≡ At i → (i < m) × (held_in l m id ≡ some (head_at l (replica_slot i)))
+pub held_at : (l : List ℕ) (m id i : ℕ) → first_replica l m id ≡ Some i → (i < m) × (held_in l m id ≡ some (head_at l (replica_slot i)))
 held_at l m id i e =
     let f = found_slot _ (replica_in l) 0 m i e in
     (omega (arith, f.1), ap head_of? f.2 ∙ ap (λ (r : Replica). some r.head) (replica_fields l (replica_slot i)))
 
-pub not_held_law : (l : List ℕ) (m id : ℕ) → first_replica l m id ≡ Nothing → held_in l m id ≡ none
+pub not_held_law : (l : List ℕ) (m id : ℕ) → first_replica l m id ≡ None → held_in l m id ≡ none
 not_held_law l m id e = ap head_of? (no_slot _ (replica_in l) 0 m e)
 
-pub listed_at : (l : List ℕ) (k directory child : ℕ) (name : Name) (i : ℕ) → first_entry l k directory child name ≡ At i →
+pub listed_at : (l : List ℕ) (k directory child : ℕ) (name : Name) (i : ℕ) → first_entry l k directory child name ≡ Some i →
     (i < k) × (listed_in l k directory child name ≡ some (entry_at l (entry_slot i)))
 listed_at l k directory child name i e =
     let f = found_slot _ (entry_in l) 0 k i e in
     (omega (arith, f.1), ap entry_of? f.2 ∙ ap (λ (x : Listed). some x.entry) (listed_fields l (entry_slot i)))
 
-pub not_listed : (l : List ℕ) (k directory child : ℕ) (name : Name) → first_entry l k directory child name ≡ Nothing →
+pub not_listed : (l : List ℕ) (k directory child : ℕ) (name : Name) → first_entry l k directory child name ≡ None →
     listed_in l k directory child name ≡ none
 not_listed l k directory child name e = ap entry_of? (no_slot _ (entry_in l) 0 k e)
 
@@ -164,12 +163,12 @@ pub key_test : (l : List ℕ) (s i : ℕ) (x : Listed) (e : Entry) (name : Name)
 key_test l s i x e name p q r = rw (q, r, p)
 
 -- what the table that bytes are holds by an id, by the slot in which it was found over the slots in use
-pub found_head : (l : List ℕ) (m id i : ℕ) → m ≡ replicas_used l → first_replica l m id ≡ At i →
+pub found_head : (l : List ℕ) (m id i : ℕ) → m ≡ replicas_used l → first_replica l m id ≡ Some i →
     (i < m) × (head_of (table_of l) id ≡ some (head_at l (replica_slot i)))
 unfolding table_of
 found_head l m id i u e = let h = held_at l m id i e in (h.0, ap (λ (n : ℕ). held_in l n id) (sym u) ∙ h.1)
 
-pub not_found : (l : List ℕ) (m id : ℕ) → m ≡ replicas_used l → first_replica l m id ≡ Nothing →
+pub not_found : (l : List ℕ) (m id : ℕ) → m ≡ replicas_used l → first_replica l m id ≡ None →
     head_of (table_of l) id ≡ none
 unfolding table_of
 not_found l m id u e = ap (λ (n : ℕ). held_in l n id) (sym u) ∙ not_held_law l m id e

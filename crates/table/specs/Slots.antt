@@ -1,6 +1,6 @@
 -- Slots as loops pass them: the first that passes a test, how many pass, and whether all do, with the step and the end of
 -- each, and what they say of the lists of `document`. What the contracts of `table::find` cite. Assumes nothing.
-use Rattle.std.specs.Prelude.{◌≡◌, refl, Bool, true, false, ◌&&◌, cond, List, ◌∷◌, ℕ, zero, suc, ◌+◌, ◌*◌, ◌-◌, ◌≤◌, ◌<◌, eqb, length}
+use Rattle.std.specs.Prelude.{◌≡◌, refl, Bool, true, false, ◌&&◌, cond, List, ◌∷◌, ℕ, zero, suc, ◌+◌, ◌*◌, ◌-◌, ◌≤◌, ◌<◌, eqb, length, Option, Some, None}
 use Rattle.std.proofs.Common.{ap, sym, ◌∙◌, arith, mul-add, eqb-true}
 use Rattle.std.proofs.Math.Option.{some, none}
 use Rattle.std.proofs.lemmas.Bool.{eqb-false}
@@ -17,23 +17,21 @@ use Rattle.slots.specs.declared.listed.Listed.{Listed}
 use Rattle.slots.specs.Replicas.{replica_fields}
 use Rattle.slots.specs.Listings.{listed_fields}
 use Rattle.document.specs.Tables.{first, has_id, is_key, entries_of, used, slots_from, every_slot, replica_slot, entry_slot, replica_in, entry_in}
-use Rattle.table.specs.declared.find.Found.{Found}
-use Rattle.table.specs.declared.find.Found.TheVariants.{At, Nothing}
 
 -- the first of n slots from s on that passes
-unfoldable pub first_slot : (ℕ → Bool) → ℕ → ℕ → Found
-first_slot f s zero = Nothing
-first_slot f s (suc n) = cond (f s) (At s) (first_slot f (suc s) n)
+unfoldable pub first_slot : (ℕ → Bool) → ℕ → ℕ → Option ℕ
+first_slot f s zero = None
+first_slot f s (suc n) = cond (f s) (Some s) (first_slot f (suc s) n)
 
 -- how many of n slots from s on pass
 unfoldable pub count_slots : (ℕ → Bool) → ℕ → ℕ → ℕ
 count_slots f s zero = 0
 count_slots f s (suc n) = cond (f s) (suc (count_slots f (suc s) n)) (count_slots f (suc s) n)
 
-abbrev pub first_replica : List ℕ → ℕ → ℕ → Found
+abbrev pub first_replica : List ℕ → ℕ → ℕ → Option ℕ
 first_replica l m id = first_slot (λ (s : ℕ). has_id id (replica_in l s)) 0 m
 
-abbrev pub first_entry : List ℕ → ℕ → ℕ → ℕ → Name → Found
+abbrev pub first_entry : List ℕ → ℕ → ℕ → ℕ → Name → Option ℕ
 first_entry l k directory child name = first_slot (λ (s : ℕ). is_key directory child name (entry_in l s)) 0 k
 
 abbrev pub is_listed_in : List ℕ → ℕ → ℕ → Bool
@@ -58,13 +56,13 @@ unfolding used
 used_none mark l o size n i h = ap (used mark l o size) {x = n - i} {y = 0} (omega arith)
 
 pub first_step : (f : ℕ → Bool) (n i : ℕ) → i < n →
-    first_slot f i (n - i) ≡ cond (f i) (At i) (first_slot f (i + 1) (n - (i + 1)))
+    first_slot f i (n - i) ≡ cond (f i) (Some i) (first_slot f (i + 1) (n - (i + 1)))
 unfolding first_slot
 first_step f n i h =
     ap (first_slot f i) {x = n - i} {y = suc (n - (i + 1))} (omega arith)
-    ∙ ap (λ (j : ℕ). cond (f i) (At i) (first_slot f j (n - (i + 1)))) {x = suc i} {y = i + 1} (omega arith)
+    ∙ ap (λ (j : ℕ). cond (f i) (Some i) (first_slot f j (n - (i + 1)))) {x = suc i} {y = i + 1} (omega arith)
 
-pub first_none : (f : ℕ → Bool) (n i : ℕ) → n ≤ i → first_slot f i (n - i) ≡ Nothing
+pub first_none : (f : ℕ → Bool) (n i : ℕ) → n ≤ i → first_slot f i (n - i) ≡ None
 unfolding first_slot
 first_none f n i h = ap (first_slot f i) {x = n - i} {y = 0} (omega arith)
 
@@ -138,26 +136,26 @@ entries_count l directory s (suc k) = go (is_listed_in l directory s) (entries_c
     go false e = e
 
 -- the slot that was found is one of them, and what stands there is what the list has first
-pub found_slot : {A : Type 0} (f : A → Bool) (g : ℕ → A) (s n i : ℕ) → first_slot (λ (k : ℕ). f (g k)) s n ≡ At i →
+pub found_slot : {A : Type 0} (f : A → Bool) (g : ℕ → A) (s n i : ℕ) → first_slot (λ (k : ℕ). f (g k)) s n ≡ Some i →
     (s ≤ i) × (i < s + n) × (first f (slots_from g s n) ≡ some (g i))
 unfolding first_slot first slots_from
 found_slot f g s zero i e = let z : ◌≡◌ {A = ℕ} 0 1 = cc in absurd (omega arith)
 found_slot f g s (suc n) i e = go (f (g s)) e (found_slot f g (suc s) n i)
   where
-    go : (b : Bool) → cond b (At s) (first_slot (λ (k : ℕ). f (g k)) (suc s) n) ≡ At i →
-        (first_slot (λ (k : ℕ). f (g k)) (suc s) n ≡ At i → (suc s ≤ i) × (i < suc s + n) × (first f (slots_from g (suc s) n) ≡ some (g i))) →
+    go : (b : Bool) → cond b (Some s) (first_slot (λ (k : ℕ). f (g k)) (suc s) n) ≡ Some i →
+        (first_slot (λ (k : ℕ). f (g k)) (suc s) n ≡ Some i → (suc s ≤ i) × (i < suc s + n) × (first f (slots_from g (suc s) n) ≡ some (g i))) →
         (s ≤ i) × (i < s + suc n) × (cond b (some (g s)) (first f (slots_from g (suc s) n)) ≡ some (g i))
     go true p ih = let q : s ≡ i = cc in (omega arith, omega arith, ap (λ (j : ℕ). some (g j)) q)
     go false p ih = let r = ih p in (omega arith, omega arith, r.2)
 
-pub no_slot : {A : Type 0} (f : A → Bool) (g : ℕ → A) (s n : ℕ) → first_slot (λ (k : ℕ). f (g k)) s n ≡ Nothing →
+pub no_slot : {A : Type 0} (f : A → Bool) (g : ℕ → A) (s n : ℕ) → first_slot (λ (k : ℕ). f (g k)) s n ≡ None →
     first f (slots_from g s n) ≡ none
 unfolding first_slot first slots_from
 no_slot f g s zero e = refl
 no_slot f g s (suc n) e = go (f (g s)) e (no_slot f g (suc s) n)
   where
-    go : (b : Bool) → cond b (At s) (first_slot (λ (k : ℕ). f (g k)) (suc s) n) ≡ Nothing →
-        (first_slot (λ (k : ℕ). f (g k)) (suc s) n ≡ Nothing → first f (slots_from g (suc s) n) ≡ none) →
+    go : (b : Bool) → cond b (Some s) (first_slot (λ (k : ℕ). f (g k)) (suc s) n) ≡ None →
+        (first_slot (λ (k : ℕ). f (g k)) (suc s) n ≡ None → first f (slots_from g (suc s) n) ≡ none) →
         cond b (some (g s)) (first f (slots_from g (suc s) n)) ≡ none
     go true p ih = let z : ◌≡◌ {A = ℕ} 0 1 = cc in absurd (omega arith)
     go false p ih = ih p

@@ -4,7 +4,6 @@ ghost use Rattle.codec.specs.Bytes.{zeros};
 ghost use Rattle.table.specs.Rules.{ids_new};
 ghost use Rattle.table.specs.Counts.{Counted};
 
-use crate::find::Found;
 use crate::hints;
 
 // A count of 0 for each replica slot.
@@ -22,7 +21,7 @@ fn raise(t: &[u8], m: usize, index: &[u8; 256], e: usize, counts: &mut [u16; 64]
 {
     let directory = codec::get_u32(t, 3104 + 40 * e + 32);
     let found = hints::replica(t, m, index, directory);
-    let Found::At(s) = found else {
+    let Some(s) = found else {
         return;
     };
     counts[s] += 1;

@@ -7,13 +7,6 @@ ghost use Rattle.table.specs.Slots.{first_replica, first_entry, entries_in};
 use names::Name;
 use records::{Entry, Head};
 
-// A slot, or none.
-#[derive(Clone, Copy)]
-pub enum Found {
-    At(usize),
-    Nothing,
-}
-
 // How many replica slots are used.
 pub fn replicas_used(t: &[u8]) -> usize
     requires { 13344 ≤ length t.now }
@@ -45,18 +38,18 @@ pub fn entries_used(t: &[u8]) -> usize
 }
 
 // The first of m replica slots that has the id.
-pub fn replica(t: &[u8], m: usize, id: u32) -> Found
+pub fn replica(t: &[u8], m: usize, id: u32) -> Option<usize>
     requires { (13344 ≤ length t.now) × (m ≤ 64) }
     ensures { result ≡ first_replica t.now m id }
 {
     let mut i = 0;
     while i < m {
         if codec::get_u32(t, 32 + 48 * i + 4) == id {
-            return Found::At(i);
+            return Some(i);
         }
         i += 1;
     }
-    Found::Nothing
+    None
 }
 
 // Whether entry slot s has the key. Its fields are read only as far as they are needed.
@@ -75,18 +68,18 @@ pub fn has_key(t: &[u8], s: usize, directory: u32, child: u32, name: Name) -> bo
 }
 
 // The first of k entry slots that has the key.
-pub fn entry(t: &[u8], k: usize, directory: u32, child: u32, name: Name) -> Found
+pub fn entry(t: &[u8], k: usize, directory: u32, child: u32, name: Name) -> Option<usize>
     requires { (13344 ≤ length t.now) × (k ≤ 256) }
     ensures { result ≡ first_entry t.now k directory child name }
 {
     let mut i = 0;
     while i < k {
         if has_key(t, i, directory, child, name) {
-            return Found::At(i);
+            return Some(i);
         }
         i += 1;
     }
-    Found::Nothing
+    None
 }
 
 // How many of k entry slots are listed in the directory.

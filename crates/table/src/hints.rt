@@ -11,7 +11,6 @@ ghost use Rattle.table.specs.Rules.{ids_new, keys_new};
 ghost use Rattle.table.specs.Hints.{HasId};
 
 use crate::find;
-use crate::find::Found;
 use names::Name;
 use records::Head;
 
@@ -88,13 +87,13 @@ fn led_to(t: &[u8], m: usize, index: &[u8; 256], id: u32) -> usize
 
 // The first of m replica slots that has the id. The slots are passed for an id that is not held; there
 // the judgement ends, so it makes one such pass at most.
-pub fn replica(t: &[u8], m: usize, index: &[u8; 256], id: u32) -> Found
+pub fn replica(t: &[u8], m: usize, index: &[u8; 256], id: u32) -> Option<usize>
     requires { (13344 ≤ length t.now) × (m ≤ 64) × (ids_new t.now m ≡ true) }
     ensures { result ≡ first_replica t.now m id }
 {
     let s = led_to(t, m, index, id);
     if s < m {
-        return Found::At(s);
+        return Some(s);
     }
     find::replica(t, m, id)
 }
@@ -136,14 +135,14 @@ pub fn places_of(t: &[u8], m: usize, k: usize, index: &[u8; 256]) -> [u8; 64]
 
 // The first of k entry slots that has the key, looked for in the hinted slot first. A pass is made, as
 // above, only where there is none.
-pub fn entry(t: &[u8], k: usize, hint: u8, directory: u32, child: u32, name: Name) -> Found
+pub fn entry(t: &[u8], k: usize, hint: u8, directory: u32, child: u32, name: Name) -> Option<usize>
     requires { (13344 ≤ length t.now) × (k ≤ 256) × (keys_new t.now k ≡ true) }
     ensures { result ≡ first_entry t.now k directory child name }
 {
     let s = hint as usize;
     if s < k {
         if find::has_key(t, s, directory, child, name) {
-            return Found::At(s);
+            return Some(s);
         }
     }
     find::entry(t, k, directory, child, name)

@@ -13,7 +13,6 @@ ghost use Rattle.document.specs.Sound.{is_root_id, is_live, is_place_of, held_an
 ghost use Rattle.table.specs.Rules.{table_at, held_in, listed_in, id_new, key_new, ids_new, keys_new, slots_keep};
 ghost use Rattle.table.specs.Counts.{entries_under, Counted};
 
-use crate::find::Found;
 use crate::{counts, find, hints};
 use numbers::{ids, nodes};
 use records::{Entry, Head};
@@ -60,7 +59,7 @@ fn place_held(t: &[u8], m: usize, index: &[u8; 256], h: Head) -> bool
         return true;
     }
     let found = hints::replica(t, m, index, h.directory);
-    let Found::At(p) = found else {
+    let Some(p) = found else {
         return false;
     };
     is_place_of(Head::read(t, 32 + 48 * p), h)
@@ -96,7 +95,7 @@ fn place_shown(t: &[u8], k: usize, hint: u8, h: Head) -> bool
     }
     let name = h.name;
     let found = hints::entry(t, k, hint, h.directory, h.id, name);
-    let Found::At(e) = found else {
+    let Some(e) = found else {
         return false;
     };
     is_shown_by(Entry::read(t, 3104 + 40 * e), h.stamp)
@@ -183,7 +182,7 @@ fn is_parent(t: &[u8], m: usize, index: &[u8; 256], directory: u32) -> bool
     ensures { result ≡ held_and is_parent (held_in t.now m directory) }
 {
     let found = hints::replica(t, m, index, directory);
-    let Found::At(p) = found else {
+    let Some(p) = found else {
         return false;
     };
     let h = Head::read(t, 32 + 48 * p);

@@ -6,7 +6,6 @@ use crate::say;
 use answers::Answer;
 use std::io;
 use table::find;
-use table::find::Found;
 
 // The slot of the replica with that id; 64 if it is not held.
 fn slot_of(t: &[u8], id: u32) -> usize
@@ -14,7 +13,7 @@ fn slot_of(t: &[u8], id: u32) -> usize
     ensures { result ≤ 64 }
 {
     let found = find::replica(t, find::replicas_used(t), id);
-    let Found::At(s) = found else {
+    let Some(s) = found else {
         return 64;
     };
     s

@@ -38,17 +38,17 @@ returns-in_default c =
 
 pub overflow_mul-i : goal.overflow_mul-i
 overflow_mul-i c =
-    let p = slot_held c.args.table.now c.args.directory c.in-At.i (sym c.slot_of-found.ensures ∙ c.in-At.is) in
+    let p = slot_held c.args.table.now c.args.directory c.in-Some.i (sym c.slot_of-found.ensures ∙ c.in-Some.is) in
     omega (arith, p.0)
 
 pub overflow_add-i : goal.overflow_add-i
 overflow_add-i c =
-    let p = slot_held c.args.table.now c.args.directory c.in-At.i (sym c.slot_of-found.ensures ∙ c.in-At.is) in
+    let p = slot_held c.args.table.now c.args.directory c.in-Some.i (sym c.slot_of-found.ensures ∙ c.in-Some.is) in
     omega (arith, p.0)
 
 pub read-requires : goal.read-requires
 read-requires c =
-    let p = slot_held c.args.table.now c.args.directory c.in-At.i (sym c.slot_of-found.ensures ∙ c.in-At.is) in
+    let p = slot_held c.args.table.now c.args.directory c.in-Some.i (sym c.slot_of-found.ensures ∙ c.in-Some.is) in
     omega (arith, p.0, sound_length c.args.table.now c.requires)
 
 pub overflow_cast-kind : goal.overflow_cast-kind
@@ -70,15 +70,15 @@ create_in-requires c =
     let a = c.args in
     (takes a.table.now a.directory a.time c.requires (good_early (table_of a.table.now).nodes a.time a.kind a.set (name_from a.name.now)
     (good_at a.table.now a.time a.kind a.name.now a.set c.get_u8.ensures c.from-given.ensures c.are_good.ensures
-    c.if-not-are_good.false)) (sym c.slot_of-found.ensures ∙ c.in-At.is) c.read.ensures).0
+    c.if-not-are_good.false)) (sym c.slot_of-found.ensures ∙ c.in-Some.is) c.read.ensures).0
 
 pub returns : goal.returns
 returns c =
     let a = c.args in
     let k = takes a.table.now a.directory a.time c.requires (good_early (table_of a.table.now).nodes a.time a.kind a.set (name_from a.name.now)
     (good_at a.table.now a.time a.kind a.name.now a.set c.get_u8.ensures c.from-given.ensures c.are_good.ensures
-    c.if-not-are_good.false)) (sym c.slot_of-found.ensures ∙ c.in-At.is) c.read.ensures in
-    let q = slot_held a.table.now a.directory c.in-At.i (sym c.slot_of-found.ensures ∙ c.in-At.is) in
+    c.if-not-are_good.false)) (sym c.slot_of-found.ensures ∙ c.in-Some.is) c.read.ensures in
+    let q = slot_held a.table.now a.directory c.in-Some.i (sym c.slot_of-found.ensures ∙ c.in-Some.is) in
     instead _
     (ap (λ (n : Name). created_in a.time a.kind n a.set (table_of a.table.now) c.read.result) c.from-given.ensures
     ∙ sym (create_in_law a.time a.directory a.kind a.name.now a.set (table_of a.table.now)

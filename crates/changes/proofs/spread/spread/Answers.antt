@@ -42,28 +42,28 @@ overflow_cast-set c =
 
 pub overflow_mul-i : goal.overflow_mul-i
 overflow_mul-i c =
-    let p = slot_held c.args.table.now c.args.id c.in-At.i (sym c.slot_of-found.ensures ∙ c.in-At.is) in
+    let p = slot_held c.args.table.now c.args.id c.in-Some.i (sym c.slot_of-found.ensures ∙ c.in-Some.is) in
     omega (arith, p.0)
 
 pub overflow_add-i : goal.overflow_add-i
 overflow_add-i c =
-    let p = slot_held c.args.table.now c.args.id c.in-At.i (sym c.slot_of-found.ensures ∙ c.in-At.is) in
+    let p = slot_held c.args.table.now c.args.id c.in-Some.i (sym c.slot_of-found.ensures ∙ c.in-Some.is) in
     omega (arith, p.0)
 
 pub read-requires : goal.read-requires
 read-requires c =
-    let p = slot_held c.args.table.now c.args.id c.in-At.i (sym c.slot_of-found.ensures ∙ c.in-At.is) in
+    let p = slot_held c.args.table.now c.args.id c.in-Some.i (sym c.slot_of-found.ensures ∙ c.in-Some.is) in
     omega (arith, p.0, sound_length c.args.table.now c.requires)
 
 pub spread_held-requires : goal.spread_held-requires
 spread_held-requires c =
     let a = c.args in
     (spreads a.table.now a.id a.set c.requires (sym (ap (λ (n : ℕ). is_set n a.set) (c.get_u8.ensures ∙ nodes_at a.table.now)) ∙
-    (sym c.is_set.ensures ∙ c.if-not-is_set.false)) (sym c.slot_of-found.ensures ∙ c.in-At.is) c.read.ensures).0
+    (sym c.is_set.ensures ∙ c.if-not-is_set.false)) (sym c.slot_of-found.ensures ∙ c.in-Some.is) c.read.ensures).0
 
 pub returns : goal.returns
 returns c =
     let a = c.args in
     let k = spreads a.table.now a.id a.set c.requires (sym (ap (λ (n : ℕ). is_set n a.set) (c.get_u8.ensures ∙ nodes_at a.table.now)) ∙
-    (sym c.is_set.ensures ∙ c.if-not-is_set.false)) (sym c.slot_of-found.ensures ∙ c.in-At.is) c.read.ensures in
+    (sym c.is_set.ensures ∙ c.if-not-is_set.false)) (sym c.slot_of-found.ensures ∙ c.in-Some.is) c.read.ensures in
     instead _ (ap (λ (i : ℕ). spread_in i a.set (table_of a.table.now)) k.1) c.spread_held.ensures

@@ -23,25 +23,25 @@ returns-in_default c =
 
 pub overflow_mul-i : goal.overflow_mul-i
 overflow_mul-i c =
-    let p = slot_held c.args.table.now c.args.id c.in-At.i (sym c.slot_of-found.ensures ∙ c.in-At.is) in
+    let p = slot_held c.args.table.now c.args.id c.in-Some.i (sym c.slot_of-found.ensures ∙ c.in-Some.is) in
     omega (arith, p.0)
 
 pub overflow_add-i : goal.overflow_add-i
 overflow_add-i c =
-    let p = slot_held c.args.table.now c.args.id c.in-At.i (sym c.slot_of-found.ensures ∙ c.in-At.is) in
+    let p = slot_held c.args.table.now c.args.id c.in-Some.i (sym c.slot_of-found.ensures ∙ c.in-Some.is) in
     omega (arith, p.0)
 
 pub read-requires : goal.read-requires
 read-requires c =
-    let p = slot_held c.args.table.now c.args.id c.in-At.i (sym c.slot_of-found.ensures ∙ c.in-At.is) in
+    let p = slot_held c.args.table.now c.args.id c.in-Some.i (sym c.slot_of-found.ensures ∙ c.in-Some.is) in
     omega (arith, p.0, sound_length c.args.table.now c.requires)
 
 pub unlink_held-requires : goal.unlink_held-requires
 unlink_held-requires c =
     let a = c.args in
-    (takes a.table.now a.id a.time c.requires c.if-time-gt1099511627775.false (sym c.slot_of-found.ensures ∙ c.in-At.is) c.read.ensures).0
+    (takes a.table.now a.id a.time c.requires c.if-time-gt1099511627775.false (sym c.slot_of-found.ensures ∙ c.in-Some.is) c.read.ensures).0
 
 pub returns : goal.returns
 returns c =
-    let k = takes c.args.table.now c.args.id c.args.time c.requires c.if-time-gt1099511627775.false (sym c.slot_of-found.ensures ∙ c.in-At.is) c.read.ensures in
+    let k = takes c.args.table.now c.args.id c.args.time c.requires c.if-time-gt1099511627775.false (sym c.slot_of-found.ensures ∙ c.in-Some.is) c.read.ensures in
     instead _ (ap (λ (i : ℕ). unlink_in c.args.time i (table_of c.args.table.now)) k.1) c.unlink_held.ensures

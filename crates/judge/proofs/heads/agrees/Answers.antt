@@ -21,16 +21,16 @@ pub overflow_mul-i : goal.overflow_mul-i
 overflow_mul-i c =
     let a = c.args in
     let f =
-    found_head a.t.now a.m a.h.id c.in-At.i c.requires.1
-    (sym c.replica-found.ensures ∙ c.in-At.is) in
+    found_head a.t.now a.m a.h.id c.in-Some.i c.requires.1
+    (sym c.replica-found.ensures ∙ c.in-Some.is) in
     omega (arith, f.0, c.requires.1, few_replicas a.t.now)
 
 pub overflow_add-i : goal.overflow_add-i
 overflow_add-i c =
     let a = c.args in
     let f =
-    found_head a.t.now a.m a.h.id c.in-At.i c.requires.1
-    (sym c.replica-found.ensures ∙ c.in-At.is) in
+    found_head a.t.now a.m a.h.id c.in-Some.i c.requires.1
+    (sym c.replica-found.ensures ∙ c.in-Some.is) in
     omega (arith, f.0, c.requires.1, few_replicas a.t.now)
 
 pub read-requires : goal.read-requires
@@ -38,14 +38,14 @@ read-requires c =
     let a = c.args in
     let pre = c.requires in
     let f =
-    found_head a.t.now a.m a.h.id c.in-At.i pre.1
-    (sym c.replica-found.ensures ∙ c.in-At.is) in
+    found_head a.t.now a.m a.h.id c.in-Some.i pre.1
+    (sym c.replica-found.ensures ∙ c.in-Some.is) in
     omega (arith, f.0, pre.0, pre.1, few_replicas a.t.now)
 
 pub returns : goal.returns
 returns c =
     let a = c.args in
     let f =
-    found_head a.t.now a.m a.h.id c.in-At.i c.requires.1
-    (sym c.replica-found.ensures ∙ c.in-At.is) in
+    found_head a.t.now a.m a.h.id c.in-Some.i c.requires.1
+    (sym c.replica-found.ensures ∙ c.in-Some.is) in
     agrees_held (table_of a.t.now) a.h _ _ (f.1 ∙ ap some (sym c.read.ensures)) c.is_like.ensures

@@ -20,5 +20,5 @@ pub returns : goal.returns
 returns c =
     let a = c.args in
     let none =
-    not_found a.t.now a.m a.h.id c.requires.1 (sym c.replica-found.ensures ∙ c.in-Nothing.is) in
+    not_found a.t.now a.m a.h.id c.requires.1 (sym c.replica-found.ensures ∙ c.in-None.is) in
     made_absent (table_of a.t.now) a.h _ _ none c.place_entry.ensures c.agrees.ensures

@@ -27,5 +27,5 @@ returns c =
     let args = c.args in
     setting_made (table_of args.old.now) args.h _ c.requires.0 c.requires.2
     (not_found args.old.now _ args.h.id c.replicas_used.ensures.0
-    (sym c.replica-found.ensures ∙ c.in-Nothing.is))
+    (sym c.replica-found.ensures ∙ c.in-None.is))
     c.place_entry.ensures c.set.ensures.0 c.set.ensures.1

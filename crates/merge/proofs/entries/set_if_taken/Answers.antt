@@ -26,35 +26,35 @@ returns-in_default c =
 
 pub overflow_mul-i : goal.overflow_mul-i
 overflow_mul-i c =
-    let f = found_head c.args.old.now _ c.args.h.id c.in-At.i c.replicas_used.ensures.0
-    (sym c.replica-found.ensures ∙ c.in-At.is) in
+    let f = found_head c.args.old.now _ c.args.h.id c.in-Some.i c.replicas_used.ensures.0
+    (sym c.replica-found.ensures ∙ c.in-Some.is) in
     omega (arith, f.0, c.replicas_used.ensures.1)
 
 pub overflow_add-i : goal.overflow_add-i
 overflow_add-i c =
-    let f = found_head c.args.old.now _ c.args.h.id c.in-At.i c.replicas_used.ensures.0
-    (sym c.replica-found.ensures ∙ c.in-At.is) in
+    let f = found_head c.args.old.now _ c.args.h.id c.in-Some.i c.replicas_used.ensures.0
+    (sym c.replica-found.ensures ∙ c.in-Some.is) in
     omega (arith, f.0, c.replicas_used.ensures.1)
 
 pub read-was-requires : goal.read-was-requires
 read-was-requires c =
-    let f = found_head c.args.old.now _ c.args.h.id c.in-At.i c.replicas_used.ensures.0
-    (sym c.replica-found.ensures ∙ c.in-At.is) in
+    let f = found_head c.args.old.now _ c.args.h.id c.in-Some.i c.replicas_used.ensures.0
+    (sym c.replica-found.ensures ∙ c.in-Some.is) in
     omega (arith, f.0, c.replicas_used.ensures.1, c.requires.1)
 
 pub set_places-requires : goal.set_places-requires
 set_places-requires c =
     let args = c.args in
-    let f = found_head args.old.now _ args.h.id c.in-At.i c.replicas_used.ensures.0
-    (sym c.replica-found.ensures ∙ c.in-At.is) in
+    let f = found_head args.old.now _ args.h.id c.in-Some.i c.replicas_used.ensures.0
+    (sym c.replica-found.ensures ∙ c.in-Some.is) in
     let n = f.1 ∙ ap some (sym c.read-was.ensures) in
     first_places (table_of args.old.now) args.h c.requires.0 c.requires.2 _ n c.if-was-h.true
 
 pub returns-then-was-h : goal.returns-then-was-h
 returns-then-was-h c =
     let args = c.args in
-    let f = found_head args.old.now _ args.h.id c.in-At.i c.replicas_used.ensures.0
-    (sym c.replica-found.ensures ∙ c.in-At.is) in
+    let f = found_head args.old.now _ args.h.id c.in-Some.i c.replicas_used.ensures.0
+    (sym c.replica-found.ensures ∙ c.in-Some.is) in
     let n = f.1 ∙ ap some (sym c.read-was.ensures) in
     first_taken (table_of args.old.now) args.h c.requires.0 c.requires.2 _ n c.if-was-h.true
     c.set_places.ensures
@@ -62,7 +62,7 @@ returns-then-was-h c =
 pub returns : goal.returns
 returns c =
     let args = c.args in
-    let f = found_head args.old.now _ args.h.id c.in-At.i c.replicas_used.ensures.0
-    (sym c.replica-found.ensures ∙ c.in-At.is) in
+    let f = found_head args.old.now _ args.h.id c.in-Some.i c.replicas_used.ensures.0
+    (sym c.replica-found.ensures ∙ c.in-Some.is) in
     let n = f.1 ∙ ap some (sym c.read-was.ensures) in
     first_kept (table_of args.old.now) args.h c.requires.0 c.requires.2 _ n (omega (arith, c.if-was-h.false))

@@ -31,5 +31,5 @@ returns c =
     let args = c.args in
     missing_made args.h _ c.requires.0
     (not_found args.t.now _ args.h.id c.replicas_used.ensures.0
-    (sym c.replica-found.ensures ∙ c.in-Nothing.is))
+    (sym c.replica-found.ensures ∙ c.in-None.is))
     c.with_own-new.ensures c.put.ensures.0 c.put.ensures.1

@@ -21,27 +21,27 @@ returns-in_default c =
 
 pub overflow_mul-i : goal.overflow_mul-i
 overflow_mul-i c =
-    let f = found_head c.args.t.now _ c.args.id c.in-At.i c.replicas_used.ensures.0
-    (sym c.replica-found.ensures ∙ c.in-At.is) in
+    let f = found_head c.args.t.now _ c.args.id c.in-Some.i c.replicas_used.ensures.0
+    (sym c.replica-found.ensures ∙ c.in-Some.is) in
     omega (arith, f.0, c.replicas_used.ensures.1)
 
 pub overflow_add-i : goal.overflow_add-i
 overflow_add-i c =
-    let f = found_head c.args.t.now _ c.args.id c.in-At.i c.replicas_used.ensures.0
-    (sym c.replica-found.ensures ∙ c.in-At.is) in
+    let f = found_head c.args.t.now _ c.args.id c.in-Some.i c.replicas_used.ensures.0
+    (sym c.replica-found.ensures ∙ c.in-Some.is) in
     omega (arith, f.0, c.replicas_used.ensures.1)
 
 pub read-h-requires : goal.read-h-requires
 read-h-requires c =
-    let f = found_head c.args.t.now _ c.args.id c.in-At.i c.replicas_used.ensures.0
-    (sym c.replica-found.ensures ∙ c.in-At.is) in
+    let f = found_head c.args.t.now _ c.args.id c.in-Some.i c.replicas_used.ensures.0
+    (sym c.replica-found.ensures ∙ c.in-Some.is) in
     omega (arith, f.0, c.replicas_used.ensures.1, c.requires.works.stands.size)
 
 pub returns-then-h-ne1 : goal.returns-then-h-ne1
 returns-then-h-ne1 c =
     let args = c.args in
-    let f = found_head args.t.now _ args.id c.in-At.i c.replicas_used.ensures.0
-    (sym c.replica-found.ensures ∙ c.in-At.is) in
+    let f = found_head args.t.now _ args.id c.in-Some.i c.replicas_used.ensures.0
+    (sym c.replica-found.ensures ∙ c.in-Some.is) in
     let n = f.1 ∙ ap some (sym c.read-h.ensures) in
     mend_dead args.id args.time c.requires _ n (ne_eqb _ _ c.if-h-ne1.true)
 
@@ -52,8 +52,8 @@ is_dead-requires c =
 pub returns-then-not-is_dead : goal.returns-then-not-is_dead
 returns-then-not-is_dead c =
     let args = c.args in
-    let f = found_head args.t.now _ args.id c.in-At.i c.replicas_used.ensures.0
-    (sym c.replica-found.ensures ∙ c.in-At.is) in
+    let f = found_head args.t.now _ args.id c.in-Some.i c.replicas_used.ensures.0
+    (sym c.replica-found.ensures ∙ c.in-Some.is) in
     let n = f.1 ∙ ap some (sym c.read-h.ensures) in
     mend_live args.id args.time c.requires _ n (eq-eqb _ _ c.if-h-ne1.false)
     (sym c.is_dead.ensures ∙ c.if-not-is_dead.true)
@@ -61,8 +61,8 @@ returns-then-not-is_dead c =
 pub overflow_sub-h : goal.overflow_sub-h
 overflow_sub-h c =
     let args = c.args in
-    let f = found_head args.t.now _ args.id c.in-At.i c.replicas_used.ensures.0
-    (sym c.replica-found.ensures ∙ c.in-At.is) in
+    let f = found_head args.t.now _ args.id c.in-Some.i c.replicas_used.ensures.0
+    (sym c.replica-found.ensures ∙ c.in-Some.is) in
     let n = f.1 ∙ ap some (sym c.read-h.ensures) in
     omega (
       arith,
@@ -73,8 +73,8 @@ overflow_sub-h c =
 pub make_live-requires : goal.make_live-requires
 make_live-requires c =
     let args = c.args in
-    let f = found_head args.t.now _ args.id c.in-At.i c.replicas_used.ensures.0
-    (sym c.replica-found.ensures ∙ c.in-At.is) in
+    let f = found_head args.t.now _ args.id c.in-Some.i c.replicas_used.ensures.0
+    (sym c.replica-found.ensures ∙ c.in-Some.is) in
     let n = f.1 ∙ ap some (sym c.read-h.ensures) in
     mend_lights args.id args.time c.requires _ n (eq-eqb _ _ c.if-h-ne1.false)
     (sym c.is_dead.ensures ∙ c.if-not-is_dead.false)
@@ -82,8 +82,8 @@ make_live-requires c =
 pub returns : goal.returns
 returns c =
     let args = c.args in
-    let f = found_head args.t.now _ args.id c.in-At.i c.replicas_used.ensures.0
-    (sym c.replica-found.ensures ∙ c.in-At.is) in
+    let f = found_head args.t.now _ args.id c.in-Some.i c.replicas_used.ensures.0
+    (sym c.replica-found.ensures ∙ c.in-Some.is) in
     let n = f.1 ∙ ap some (sym c.read-h.ensures) in
     mend_made args.id args.time c.requires _ n (eq-eqb _ _ c.if-h-ne1.false)
     (sym c.is_dead.ensures ∙ c.if-not-is_dead.false) c.make_live.ensures

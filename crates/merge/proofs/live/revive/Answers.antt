@@ -21,20 +21,20 @@ returns-in_default c =
 
 pub overflow_mul-i : goal.overflow_mul-i
 overflow_mul-i c =
-    let f = found_head c.args.t.now _ c.args.id c.in-At.i c.replicas_used.ensures.0
-    (sym c.replica-found.ensures ∙ c.in-At.is) in
+    let f = found_head c.args.t.now _ c.args.id c.in-Some.i c.replicas_used.ensures.0
+    (sym c.replica-found.ensures ∙ c.in-Some.is) in
     omega (arith, f.0, c.replicas_used.ensures.1)
 
 pub overflow_add-i : goal.overflow_add-i
 overflow_add-i c =
-    let f = found_head c.args.t.now _ c.args.id c.in-At.i c.replicas_used.ensures.0
-    (sym c.replica-found.ensures ∙ c.in-At.is) in
+    let f = found_head c.args.t.now _ c.args.id c.in-Some.i c.replicas_used.ensures.0
+    (sym c.replica-found.ensures ∙ c.in-Some.is) in
     omega (arith, f.0, c.replicas_used.ensures.1)
 
 pub read-h-requires : goal.read-h-requires
 read-h-requires c =
-    let f = found_head c.args.t.now _ c.args.id c.in-At.i c.replicas_used.ensures.0
-    (sym c.replica-found.ensures ∙ c.in-At.is) in
+    let f = found_head c.args.t.now _ c.args.id c.in-Some.i c.replicas_used.ensures.0
+    (sym c.replica-found.ensures ∙ c.in-Some.is) in
     omega (arith, f.0, c.replicas_used.ensures.1, c.requires.works.stands.size)
 
 pub draw-stamp-requires : goal.draw-stamp-requires
@@ -45,16 +45,16 @@ draw-stamp-requires c =
 pub state-requires : goal.state-requires
 state-requires c =
     let args = c.args in
-    let f = found_head args.t.now _ args.id c.in-At.i c.replicas_used.ensures.0
-    (sym c.replica-found.ensures ∙ c.in-At.is) in
+    let f = found_head args.t.now _ args.id c.in-Some.i c.replicas_used.ensures.0
+    (sym c.replica-found.ensures ∙ c.in-Some.is) in
     let n = f.1 ∙ ap some (sym c.read-h.ensures) in
     revive_ready args.id args.time c.requires _ n c.draw-stamp.ensures.0 c.draw-stamp.ensures.1 c.with_stamp.ensures
 
 pub returns : goal.returns
 returns c =
     let args = c.args in
-    let f = found_head args.t.now _ args.id c.in-At.i c.replicas_used.ensures.0
-    (sym c.replica-found.ensures ∙ c.in-At.is) in
+    let f = found_head args.t.now _ args.id c.in-Some.i c.replicas_used.ensures.0
+    (sym c.replica-found.ensures ∙ c.in-Some.is) in
     let n = f.1 ∙ ap some (sym c.read-h.ensures) in
     revive_made args.id args.time c.requires _ n c.draw-stamp.ensures.0 c.draw-stamp.ensures.1 c.with_stamp.ensures
     c.state.ensures

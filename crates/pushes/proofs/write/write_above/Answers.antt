@@ -1,7 +1,7 @@
 -- `pushes::write::write_above` meets its contract. The loop's invariant: what was written, with the heads from d on up
 -- behind it, is what is to be written. Assumes nothing.
 use Rattle.std.proofs.Common.{◌≡◌, ap, sym, ◌∙◌, ◌+◌, ◌*◌, ◌<◌, ◌≤◌, arith, length}
-use Rattle.std.specs.Prelude.{refl, List, [], ◌∷◌, ℕ}
+use Rattle.std.specs.Prelude.{refl, List, [], ◌∷◌, ℕ, Some}
 use native.Mathlib.Nat.{sub-zero}
 use Rattle.codec.specs.Bytes.{splice}
 use Rattle.records.specs.declared.head.Head.{Head}
@@ -10,7 +10,6 @@ use Rattle.document.specs.Tables.{replica_slot, replicas_used, rows, table_of}
 use Rattle.document.specs.Messages.{chain_up}
 use Rattle.document.specs.Rows.{rows_end}
 use Rattle.views.specs.Chains.{chain_root, chain_gone, chain_up_law, chain_end}
-use Rattle.table.specs.declared.find.Found.TheVariants.{At}
 use Rattle.table.specs.Slots.{first_replica}
 use Rattle.table.specs.Rules.{found_head, not_found}
 use Rattle.pushes.specs.Writing.{head_written}
@@ -25,7 +24,7 @@ ended : (t : List ℕ) (most directory d i : ℕ) (out old : List ℕ) →
 ended t most directory d i out old k e = rows_end head_bytes out _ e ∙ k
 
 -- the head in the slot that was found is the first of those that are left
-found : (t : List ℕ) (m most d i s : ℕ) → m ≡ replicas_used t → m ≤ 64 → first_replica t m d ≡ At s → i < most →
+found : (t : List ℕ) (m most d i s : ℕ) → m ≡ replicas_used t → m ≤ 64 → first_replica t m d ≡ Some s → i < most →
     (d ≡ 0 → ⊥) →
     (s < 64)
     × (left t most d i
@@ -61,7 +60,7 @@ overflow_mul-s c =
     omega (
       arith,
       (found c.args.t.now _ c.args.most c.loop-i.d c.loop-i.i _ c.replicas_used-m.ensures.0 c.replicas_used-m.ensures.1
-          (sym c.replica-found.ensures ∙ c.in-At.is) c.loop-i-test.true c.if-d-eq0.false).0,
+          (sym c.replica-found.ensures ∙ c.in-Some.is) c.loop-i-test.true c.if-d-eq0.false).0,
     )
 
 pub overflow_add-s : goal.overflow_add-s
@@ -69,7 +68,7 @@ overflow_add-s c =
     omega (
       arith,
       (found c.args.t.now _ c.args.most c.loop-i.d c.loop-i.i _ c.replicas_used-m.ensures.0 c.replicas_used-m.ensures.1
-          (sym c.replica-found.ensures ∙ c.in-At.is) c.loop-i-test.true c.if-d-eq0.false).0,
+          (sym c.replica-found.ensures ∙ c.in-Some.is) c.loop-i-test.true c.if-d-eq0.false).0,
     )
 
 pub read-h-requires : goal.read-h-requires
@@ -77,14 +76,14 @@ read-h-requires c =
     omega (
       arith,
       (found c.args.t.now _ c.args.most c.loop-i.d c.loop-i.i _ c.replicas_used-m.ensures.0 c.replicas_used-m.ensures.1
-          (sym c.replica-found.ensures ∙ c.in-At.is) c.loop-i-test.true c.if-d-eq0.false).0,
+          (sym c.replica-found.ensures ∙ c.in-Some.is) c.loop-i-test.true c.if-d-eq0.false).0,
     )
 
 pub write-requires : goal.write-requires
 write-requires c =
     let l = c.loop-i in
     let f = found c.args.t.now _ c.args.most l.d l.i _ c.replicas_used-m.ensures.0 c.replicas_used-m.ensures.1
-    (sym c.replica-found.ensures ∙ c.in-At.is) c.loop-i-test.true c.if-d-eq0.false in
+    (sym c.replica-found.ensures ∙ c.in-Some.is) c.loop-i-test.true c.if-d-eq0.false in
     omega (arith, ap length f.1, l.invariant.1, l.invariant.2)
 
 pub loop-i-preserved : goal.loop-i-preserved
@@ -93,7 +92,7 @@ loop-i-preserved c =
     let a = c.args in
     let h = c.read-h.result in
     let f = found a.t.now _ a.most l.d l.i _ c.replicas_used-m.ensures.0 c.replicas_used-m.ensures.1
-    (sym c.replica-found.ensures ∙ c.in-At.is) c.loop-i-test.true c.if-d-eq0.false in
+    (sym c.replica-found.ensures ∙ c.in-Some.is) c.loop-i-test.true c.if-d-eq0.false in
     let rest : Head → List Head = λ (g : Head). g ∷ left a.t.now a.most g.directory (l.i + 1) in
     let up = f.1 ∙ ap rest (sym c.read-h.ensures) in
     let count = ap length up in (

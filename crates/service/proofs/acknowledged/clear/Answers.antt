@@ -44,7 +44,7 @@ clear_slot-requires c =
       own = c.if-a-get_u8.false ∙ c.get_u8.ensures ∙ own_at c.args.table.now;
       found =
           ap (λ (m : ℕ). first_replica c.args.table.now m c.args.a.id) (sym c.replicas_used.ensures.0)
-          ∙ sym c.replica-found.ensures ∙ c.in-At.is;
+          ∙ sym c.replica-found.ensures ∙ c.in-Some.is;
     }
 
 pub returns : goal.returns

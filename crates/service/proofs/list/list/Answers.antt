@@ -37,22 +37,22 @@ returns-in_default c =
     (sym c.slot_of-found.ensures ∙ c.in_default.is)))
 
 pub overflow_cast-id : goal.overflow_cast-id
-overflow_cast-id c = omega (arith, (slot_found _ _ _ (sym c.slot_of-found.ensures ∙ c.in-At.is)).0)
+overflow_cast-id c = omega (arith, (slot_found _ _ _ (sym c.slot_of-found.ensures ∙ c.in-Some.is)).0)
 
 pub overflow_mul-s : goal.overflow_mul-s
-overflow_mul-s c = omega (arith, (slot_held _ _ _ (sym c.slot_of-found.ensures ∙ c.in-At.is)).0)
+overflow_mul-s c = omega (arith, (slot_held _ _ _ (sym c.slot_of-found.ensures ∙ c.in-Some.is)).0)
 
 pub overflow_add-s : goal.overflow_add-s
-overflow_add-s c = omega (arith, (slot_held _ _ _ (sym c.slot_of-found.ensures ∙ c.in-At.is)).0)
+overflow_add-s c = omega (arith, (slot_held _ _ _ (sym c.slot_of-found.ensures ∙ c.in-Some.is)).0)
 
 pub read-requires : goal.read-requires
 read-requires c =
-    let f = slot_held _ _ _ (sym c.slot_of-found.ensures ∙ c.in-At.is) in
+    let f = slot_held _ _ _ (sym c.slot_of-found.ensures ∙ c.in-Some.is) in
     omega (arith, f.0, sound_length _ (sym c.is_sound.ensures ∙ c.if-not-is_sound.false))
 
 pub list_held-requires : goal.list_held-requires
 list_held-requires c =
-    let f = slot_held c.args.table.now c.args.id _ (sym c.slot_of-found.ensures ∙ c.in-At.is) in (
+    let f = slot_held c.args.table.now c.args.id _ (sym c.slot_of-found.ensures ∙ c.in-Some.is) in (
       sound_length _ (sym c.is_sound.ensures ∙ c.if-not-is_sound.false),
       f.1 ∙ ap (λ (h : Head). some h) (sym c.read.ensures),
     )

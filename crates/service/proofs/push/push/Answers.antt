@@ -1,7 +1,7 @@
 -- `service::push::push` meets its contract: not sound; no other node; not held; what is held.
 -- Assumes nothing.
 use Rattle.std.proofs.Common.{◌≡◌, ap, sym, subst, ◌∙◌, ◌<◌, arith, length, eq-eqb, ne_eqb}
-use Rattle.std.specs.Prelude.{refl, Bool, true, false, List, ℕ, eqb}
+use Rattle.std.specs.Prelude.{refl, Bool, true, false, List, ℕ, eqb, Some}
 use mathlib.Core.Option.{some}
 use Rattle.codec.specs.Bytes.{u8_at}
 use Rattle.numbers.specs.Nodes.{is_node}
@@ -12,7 +12,6 @@ use Rattle.document.specs.Outcomes.{Outcome, output_after}
 use Rattle.document.specs.Calls.{push, push_in}
 use Rattle.document.specs.Reading.{few_replicas, own_at, sound_length}
 use Rattle.table.specs.Ranges.{nodes_at}
-use Rattle.table.specs.declared.find.Found.TheVariants.{At}
 use Rattle.pushes.specs.Pushing.{replica_found}
 use Rattle.pushes.specs.Writing.{Held}
 use Rattle.answers.specs.Answers.{answer_of, not_sound, is_sound}
@@ -38,7 +37,7 @@ apart_of : (l : List ℕ) (own node : ℕ) → own ≡ u8_at l 2 → (node ≡ o
 apart_of l own node e other = ne_eqb _ _ (λ h. other (h ∙ sym (e ∙ own_at l)))
 
 -- the replica in the slot that was found
-found_in : (l : List ℕ) (id s : ℕ) → slot_of l id ≡ At s →
+found_in : (l : List ℕ) (id s : ℕ) → slot_of l id ≡ Some s →
     (s < 64) × ((replica_in l s).head.id ≡ id) × (find (replica_in l s).head.id (table_of l).replicas ≡ some (replica_in l s))
 found_in l id s h =
     let f = replica_found l (replicas_used l) id s refl (slot_found l id s h).1 in
@@ -88,14 +87,14 @@ returns-in_default c =
     (sym c.slot_of-found.ensures ∙ c.in_default.is))))
 
 pub overflow_mul-s : goal.overflow_mul-s
-overflow_mul-s c = omega (arith, (found_in _ _ _ (sym c.slot_of-found.ensures ∙ c.in-At.is)).0)
+overflow_mul-s c = omega (arith, (found_in _ _ _ (sym c.slot_of-found.ensures ∙ c.in-Some.is)).0)
 
 pub overflow_add-s : goal.overflow_add-s
-overflow_add-s c = omega (arith, (found_in _ _ _ (sym c.slot_of-found.ensures ∙ c.in-At.is)).0)
+overflow_add-s c = omega (arith, (found_in _ _ _ (sym c.slot_of-found.ensures ∙ c.in-Some.is)).0)
 
 pub read-requires : goal.read-requires
 read-requires c =
-    let f = found_in _ _ _ (sym c.slot_of-found.ensures ∙ c.in-At.is) in
+    let f = found_in _ _ _ (sym c.slot_of-found.ensures ∙ c.in-Some.is) in
     omega (arith, f.0, sound_length _ (sym c.is_sound.ensures ∙ c.if-not-is_sound.false))
 
 pub overflow_cast-node : goal.overflow_cast-node
@@ -110,7 +109,7 @@ push_held-requires c =
     record {
       held = subst (Held a.table.now) (sym c.read.ensures) (record {
         sound = sym c.is_sound.ensures ∙ c.if-not-is_sound.false;
-        found = (found_in a.table.now _ _ (sym c.slot_of-found.ensures ∙ c.in-At.is)).2;
+        found = (found_in a.table.now _ _ (sym c.slot_of-found.ensures ∙ c.in-Some.is)).2;
       });
       member = member_of a.table.now _ a.node _ c.get_u8.ensures c.is_node.ensures c.if-not-is_node.false;
       apart = apart_of a.table.now _ a.node c.get_u8-2.ensures c.if-node-get_u8.false;
@@ -119,7 +118,7 @@ push_held-requires c =
 pub returns : goal.returns
 returns c =
     let a = c.args in
-    let f = found_in a.table.now _ _ (sym c.slot_of-found.ensures ∙ c.in-At.is) in
+    let f = found_in a.table.now _ _ (sym c.slot_of-found.ensures ∙ c.in-Some.is) in
     let id = ap (λ (r : Replica). r.head.id) c.read.ensures ∙ f.1 in
     let call : push_in _ a.node (length a.out.now) (table_of a.table.now) ≡ push a.table.now a.id a.node (length a.out.now) =
     ap (λ (i : ℕ). push_in i a.node (length a.out.now) (table_of a.table.now)) id

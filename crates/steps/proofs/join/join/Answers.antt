@@ -1,6 +1,6 @@
 -- `steps::join::join` meets its contract. Assumes nothing.
+use Rattle.std.specs.Prelude.{ℕ, Option}
 use Rattle.std.proofs.Common.{arith, ap, sym, ◌∙◌}
-use Rattle.table.specs.declared.find.Found.{Found}
 use Rattle.document.specs.Tables.{entry_in}
 use Rattle.table.specs.Slots.{found_slot}
 use Rattle.document.specs.Sound.{same_key}
@@ -15,14 +15,14 @@ entry-found-requires c =
 pub returns-in_default : goal.returns-in_default
 returns-in_default c =
     joins_so _ _ _ c.requires.1
-    (ap (λ (f : Found). joined_at f (entry_in c.args.t.now) c.args.x) (sym c.in_default.is ∙ c.entry-found.ensures))
+    (ap (λ (f : Option ℕ). joined_at f (entry_in c.args.t.now) c.args.x) (sym c.in_default.is ∙ c.entry-found.ensures))
 
 pub meet-requires : goal.meet-requires
 meet-requires c =
-    let p = found_slot (same_key c.args.x) (entry_in c.args.t.now) 0 c.args.k c.in-At.s (sym c.entry-found.ensures ∙ c.in-At.is) in
+    let p = found_slot (same_key c.args.x) (entry_in c.args.t.now) 0 c.args.k c.in-Some.s (sym c.entry-found.ensures ∙ c.in-Some.is) in
     (c.requires.0, omega (arith, p.1, c.requires.1, few_entries c.args.t.now))
 
 pub returns : goal.returns
 returns c =
     joins_so _ _ _ c.requires.1
-    (c.meet.ensures ∙ ap (λ (f : Found). joined_at f (entry_in c.args.t.now) c.args.x) (sym c.in-At.is ∙ c.entry-found.ensures))
+    (c.meet.ensures ∙ ap (λ (f : Option ℕ). joined_at f (entry_in c.args.t.now) c.args.x) (sym c.in-Some.is ∙ c.entry-found.ensures))

@@ -26,30 +26,30 @@ pub overflow_mul-i : goal.overflow_mul-i
 overflow_mul-i c =
     let a = c.args in
     let f : HeadFit a.h = record { id = search rules; stamp = search rules; directory = search rules; bytes = search rules } in
-    let p = put_at c.requires (λ n. (c.slice_known-1.given n).fits) a.h f c.in-At.i
-    (ap (λ (m : ℕ). first_replica a.t.now m a.h.id) (sym c.replicas_used-m.ensures.0) ∙ sym c.replica-found.ensures ∙ c.in-At.is) in
+    let p = put_at c.requires (λ n. (c.slice_known-1.given n).fits) a.h f c.in-Some.i
+    (ap (λ (m : ℕ). first_replica a.t.now m a.h.id) (sym c.replicas_used-m.ensures.0) ∙ sym c.replica-found.ensures ∙ c.in-Some.is) in
     omega (arith, p.1)
 
 pub overflow_add-i : goal.overflow_add-i
 overflow_add-i c =
     let a = c.args in
     let f : HeadFit a.h = record { id = search rules; stamp = search rules; directory = search rules; bytes = search rules } in
-    let p = put_at c.requires (λ n. (c.slice_known-1.given n).fits) a.h f c.in-At.i
-    (ap (λ (m : ℕ). first_replica a.t.now m a.h.id) (sym c.replicas_used-m.ensures.0) ∙ sym c.replica-found.ensures ∙ c.in-At.is) in
+    let p = put_at c.requires (λ n. (c.slice_known-1.given n).fits) a.h f c.in-Some.i
+    (ap (λ (m : ℕ). first_replica a.t.now m a.h.id) (sym c.replicas_used-m.ensures.0) ∙ sym c.replica-found.ensures ∙ c.in-Some.is) in
     omega (arith, p.1)
 
 pub write-requires : goal.write-requires
 write-requires c =
     let a = c.args in
     let f : HeadFit a.h = record { id = search rules; stamp = search rules; directory = search rules; bytes = search rules } in
-    let p = put_at c.requires (λ n. (c.slice_known-1.given n).fits) a.h f c.in-At.i
-    (ap (λ (m : ℕ). first_replica a.t.now m a.h.id) (sym c.replicas_used-m.ensures.0) ∙ sym c.replica-found.ensures ∙ c.in-At.is) in
+    let p = put_at c.requires (λ n. (c.slice_known-1.given n).fits) a.h f c.in-Some.i
+    (ap (λ (m : ℕ). first_replica a.t.now m a.h.id) (sym c.replicas_used-m.ensures.0) ∙ sym c.replica-found.ensures ∙ c.in-Some.is) in
     omega (arith, p.1, c.requires.size)
 
 pub returns : goal.returns
 returns c =
     let a = c.args in
     let f : HeadFit a.h = record { id = search rules; stamp = search rules; directory = search rules; bytes = search rules } in
-    let p = put_at c.requires (λ n. (c.slice_known-1.given n).fits) a.h f c.in-At.i
-    (ap (λ (m : ℕ). first_replica a.t.now m a.h.id) (sym c.replicas_used-m.ensures.0) ∙ sym c.replica-found.ensures ∙ c.in-At.is) in
+    let p = put_at c.requires (λ n. (c.slice_known-1.given n).fits) a.h f c.in-Some.i
+    (ap (λ (m : ℕ). first_replica a.t.now m a.h.id) (sym c.replicas_used-m.ensures.0) ∙ sym c.replica-found.ensures ∙ c.in-Some.is) in
     (p.0, λ _. moved p.2 c.write.ensures)

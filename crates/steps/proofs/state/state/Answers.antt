@@ -16,17 +16,17 @@ make-requires c = (c.requires, not_found c.args.t.now _ c.args.h.id c.replicas_u
 
 pub overflow_mul-i : goal.overflow_mul-i
 overflow_mul-i c =
-    let f = found_head c.args.t.now _ c.args.h.id c.in-At.i c.replicas_used.ensures.0 (sym c.replica-found.ensures ∙ c.in-At.is) in
+    let f = found_head c.args.t.now _ c.args.h.id c.in-Some.i c.replicas_used.ensures.0 (sym c.replica-found.ensures ∙ c.in-Some.is) in
     omega (arith, f.0, c.replicas_used.ensures.1)
 
 pub overflow_add-i : goal.overflow_add-i
 overflow_add-i c =
-    let f = found_head c.args.t.now _ c.args.h.id c.in-At.i c.replicas_used.ensures.0 (sym c.replica-found.ensures ∙ c.in-At.is) in
+    let f = found_head c.args.t.now _ c.args.h.id c.in-Some.i c.replicas_used.ensures.0 (sym c.replica-found.ensures ∙ c.in-Some.is) in
     omega (arith, f.0, c.replicas_used.ensures.1)
 
 pub read-old-requires : goal.read-old-requires
 read-old-requires c =
-    let f = found_head c.args.t.now _ c.args.h.id c.in-At.i c.replicas_used.ensures.0 (sym c.replica-found.ensures ∙ c.in-At.is) in
+    let f = found_head c.args.t.now _ c.args.h.id c.in-Some.i c.replicas_used.ensures.0 (sym c.replica-found.ensures ∙ c.in-Some.is) in
     omega (arith, f.0, c.replicas_used.ensures.1, c.requires.stands.size)
 
 pub put-requires : goal.put-requires
@@ -37,12 +37,12 @@ returns-then-not-put c = put_full c.args.h c.requires (sym c.put.ensures.0 ∙ c
 
 pub set_places-requires : goal.set_places-requires
 set_places-requires c =
-    let f = found_head c.args.t.now _ c.args.h.id c.in-At.i c.replicas_used.ensures.0 (sym c.replica-found.ensures ∙ c.in-At.is) in
+    let f = found_head c.args.t.now _ c.args.h.id c.in-Some.i c.replicas_used.ensures.0 (sym c.replica-found.ensures ∙ c.in-Some.is) in
     let n = f.1 ∙ ap some (sym c.read-old.ensures) in
     then_places c.args.h c.requires (sym c.put.ensures.0 ∙ c.if-not-put.false) _ (c.put.ensures.1 c.if-not-put.false) _ n
 
 pub returns : goal.returns
 returns c =
-    let f = found_head c.args.t.now _ c.args.h.id c.in-At.i c.replicas_used.ensures.0 (sym c.replica-found.ensures ∙ c.in-At.is) in
+    let f = found_head c.args.t.now _ c.args.h.id c.in-Some.i c.replicas_used.ensures.0 (sym c.replica-found.ensures ∙ c.in-Some.is) in
     let n = f.1 ∙ ap some (sym c.read-old.ensures) in
     then_set c.args.h c.requires (sym c.put.ensures.0 ∙ c.if-not-put.false) _ (c.put.ensures.1 c.if-not-put.false) _ n _ _ c.set_places.ensures

@@ -17,22 +17,22 @@ returns-in_default c =
 
 pub overflow_mul-p : goal.overflow_mul-p
 overflow_mul-p c =
-    let f = held_at c.args.t.now c.args.m c.args.h.directory _ (sym c.replica-found.ensures ∙ c.in-At.is) in
+    let f = held_at c.args.t.now c.args.m c.args.h.directory _ (sym c.replica-found.ensures ∙ c.in-Some.is) in
     omega (arith, f.0)
 
 pub overflow_add-p : goal.overflow_add-p
 overflow_add-p c =
-    let f = held_at c.args.t.now c.args.m c.args.h.directory _ (sym c.replica-found.ensures ∙ c.in-At.is) in
+    let f = held_at c.args.t.now c.args.m c.args.h.directory _ (sym c.replica-found.ensures ∙ c.in-Some.is) in
     omega (arith, f.0)
 
 pub read-requires : goal.read-requires
 read-requires c =
-    let f = held_at c.args.t.now c.args.m c.args.h.directory _ (sym c.replica-found.ensures ∙ c.in-At.is) in
+    let f = held_at c.args.t.now c.args.m c.args.h.directory _ (sym c.replica-found.ensures ∙ c.in-Some.is) in
     omega (arith, f.0)
 
 pub returns : goal.returns
 returns c =
     let a = c.args in
-    let f = held_at a.t.now a.m a.h.directory _ (sym c.replica-found.ensures ∙ c.in-At.is) in
+    let f = held_at a.t.now a.m a.h.directory _ (sym c.replica-found.ensures ∙ c.in-Some.is) in
     or_go _ _ (ne_eqb _ _ c.if-h-eq0.false)
     (c.is_place_of.ensures ∙ ap (is_place_of a.h) c.read.ensures ∙ ap (held_and (is_place_of a.h)) (sym f.1))

@@ -26,17 +26,17 @@ returns-in_default c =
 
 pub overflow_mul-e : goal.overflow_mul-e
 overflow_mul-e c =
-    let f = listed_at c.args.t.now c.args.k c.args.h.directory c.args.h.id c.args.h.name _ (sym c.entry-found.ensures ∙ c.in-At.is) in
+    let f = listed_at c.args.t.now c.args.k c.args.h.directory c.args.h.id c.args.h.name _ (sym c.entry-found.ensures ∙ c.in-Some.is) in
     omega (arith, f.0)
 
 pub overflow_add-e : goal.overflow_add-e
 overflow_add-e c =
-    let f = listed_at c.args.t.now c.args.k c.args.h.directory c.args.h.id c.args.h.name _ (sym c.entry-found.ensures ∙ c.in-At.is) in
+    let f = listed_at c.args.t.now c.args.k c.args.h.directory c.args.h.id c.args.h.name _ (sym c.entry-found.ensures ∙ c.in-Some.is) in
     omega (arith, f.0)
 
 pub read-requires : goal.read-requires
 read-requires c =
-    let f = listed_at c.args.t.now c.args.k c.args.h.directory c.args.h.id c.args.h.name _ (sym c.entry-found.ensures ∙ c.in-At.is) in
+    let f = listed_at c.args.t.now c.args.k c.args.h.directory c.args.h.id c.args.h.name _ (sym c.entry-found.ensures ∙ c.in-Some.is) in
     omega (arith, f.0)
 
 pub returns : goal.returns
@@ -44,7 +44,7 @@ returns c =
     let a = c.args in
     let f =
     listed_at a.t.now a.k a.h.directory a.h.id a.h.name _
-    (sym c.entry-found.ensures ∙ c.in-At.is) in
+    (sym c.entry-found.ensures ∙ c.in-Some.is) in
     or_go _ _ (ap not (eq-eqb _ _ c.if-h-ne1.false))
     (or_go _ _ (ne_eqb _ _ c.if-h-eq0.false)
     (c.is_shown_by.ensures ∙ ap (λ (e : Entry). shows a.h (some e)) c.read.ensures ∙ ap (shows a.h) (sym f.1)))

@@ -4,4 +4,4 @@ use Rattle.table.specs.Rules.{held_at}
 use Rattle.tour.proofs.tree.slot_of.Goals as goal
 
 pub returns : goal.returns
-returns c = omega (arith, c.replicas_used.ensures.1, (held_at _ _ _ _ (sym c.replica-found.ensures ∙ c.in-At.is)).0)
+returns c = omega (arith, c.replicas_used.ensures.1, (held_at _ _ _ _ (sym c.replica-found.ensures ∙ c.in-Some.is)).0)
