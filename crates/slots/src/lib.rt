@@ -9,3 +9,8 @@ pub mod table_header;
 pub use listed::Listed;
 pub use replica::Replica;
 pub use table_header::TableHeader;
+
+// The bytes of a table: header, 64 replica slots, 256 entry slots.
+pub const TABLE_SIZE: usize = 13344;
+
+pub type Table = [u8; TABLE_SIZE];

@@ -1,7 +1,8 @@
 // What stands in the slots: how many are used, the slot of a replica by its id, the slot of an entry
 // by its key, and how many entries a directory has.
-ghost use Rattle.std.specs.Prelude.{◌≡◌, ◌+◌, ◌*◌, ◌≤◌, ◌<◌, length};
-ghost use Rattle.document.specs.Tables.{replicas_used, entries_used, entry_in, is_key};
+ghost use Rattle.std.specs.Prelude.{◌≡◌, ◌+◌, ◌*◌, ◌≤◌, ◌<◌, length, MatchOption};
+ghost use Rattle.std.proofs.Math.Option.{none, some};
+ghost use Rattle.document.specs.Tables.{head_of, table_of, replicas_used, entries_used, entry_in, is_key};
 ghost use Rattle.table.specs.Slots.{first_replica, first_entry, entries_in};
 
 use names::Name;
@@ -96,4 +97,13 @@ pub fn entries_in(t: &[u8], k: usize, directory: u32) -> usize
         i += 1;
     }
     n
+}
+
+// The head of the replica with the id, if it is held.
+pub fn head(t: &[u8], id: u32) -> Option<Head>
+    requires { 13344 ≤ length t.now }
+    ensures { MatchOption result (head_of (table_of t.now) id ≡ none) (λ h. head_of (table_of t.now) id ≡ some h) }
+{
+    let i = replica(t, replicas_used(t), id)?;
+    Some(Head::read(t, 32 + 48 * i))
 }
