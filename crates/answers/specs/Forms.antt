@@ -1,15 +1,13 @@
--- The forms that the contract of a public call takes, each one equation with its outcome for what is answered and for every byte
+-- The forms that the contract of a public call takes, each an equation with its outcome for the number, the value and every byte
 -- lent, and that each form leaves one answer and one content of each buffer. Assumes nothing.
-use Rattle.std.specs.Prelude.{◌≡◌, List, ℕ, ◌<◌}
+use Rattle.std.specs.Prelude.{◌≡◌, List, ℕ, ◌<◌, Ok, Err}
 use Rattle.std.proofs.Common.{sym, ap, ◌∙◌, arith}
 use Rattle.document.specs.Outcomes.{Outcome, number_of, value_of, table_after, output_after}
-use Rattle.answers.specs.declared.Answer.{Answer}
-use Rattle.answers.specs.Answers.{answer_of, packed, packed_answer}
+use Rattle.answers.specs.Refusals.{code_once, code_some}
+use Rattle.answers.specs.Answers.{Answer, number, value, packed, packed_answer}
+-- ---- how a call answers: the outcome's number, and its value ..
 
--- ---- how a call answers: its number and its value ..
-
-abbrev pub Answered : Outcome → Answer → Type 0
-Answered o r = r ≡ answer_of o
+pub use Rattle.answers.specs.Answers.{Answered}
 
 -- .. or, exported, both in one number, from which either can be had because the value is below 2^32
 abbrev pub Packed : Outcome → ℕ → Type 0
@@ -31,8 +29,15 @@ LeavesAndWrites P o r l l' out out' = P o r × (l' ≡ table_after o l) × (out'
 abbrev pub OneAnswer : {A : Type 0} → (Outcome → A → Type 0) → Type 0
 OneAnswer {A = A} P = (o : Outcome) (r r' : A) → P o r → P o r' → r ≡ r'
 
+-- one number and one value are those of one answer
+pub one_answer : (r r' : Answer) → number r ≡ number r' → value r ≡ value r' → r ≡ r'
+one_answer (Ok v) (Ok v') n e = ap Ok e
+one_answer (Ok v) (Err q) n e = absurd (code_some q (sym n))
+one_answer (Err r) (Ok v') n e = absurd (code_some r n)
+one_answer (Err r) (Err q) n e = ap Err (code_once r q n)
+
 pub answered_once : OneAnswer Answered
-answered_once o r r' p q = p ∙ sym q
+answered_once o r r' p q = one_answer r r' (p.number ∙ sym q.number) (p.value ∙ sym q.value)
 
 pub packed_once : OneAnswer Packed
 packed_once o r r' p q = p.0 ∙ sym q.0
@@ -42,6 +47,5 @@ pub packed_apart : (o o' : Outcome) (r : ℕ) → Packed o r → Packed o' r →
 packed_apart o o' r p q = (omega (arith, p.0, q.0, p.1, q.1), omega (arith, p.0, q.0, p.1, q.1))
 
 -- what holds of an answer that is packed holds of the outcome that it is of
-pub packs : {a b : Answer} {r : ℕ} → (r ≡ packed_answer a) × (a.value < 4294967296) → a ≡ b →
-    (r ≡ packed_answer b) × (b.value < 4294967296)
-packs p e = (p.0 ∙ ap packed_answer e, omega (arith, p.1, ap (λ (x : Answer). x.value) e))
+pub packs : {o : Outcome} {a : Answer} {r : ℕ} → (r ≡ packed_answer a) × (value a < 4294967296) → Answered o a → Packed o r
+packs p e = (omega (arith, p.0, e.number, e.value), omega (arith, p.1, e.value))

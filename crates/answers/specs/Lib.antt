@@ -2,3 +2,5 @@ pub mod Answers
 pub mod Forms
 pub mod Held
 pub mod Outputs
+pub mod Passing
+pub mod Refusals

@@ -1,19 +1,37 @@
-// What a call answers. The calls and the crates that they are made of share it.
+// What a call answers: the value of what was done, or a refusal of document 01. The calls and the crates
+// that they are made of share it.
 #![tactic(auto)]
 
-ghost use Rattle.std.specs.Prelude.{◌≡◌, ◌<◌};
-ghost use Rattle.answers.specs.Answers.{packed_answer};
+pub mod refusal;
 
-// What comes back: 0 is done, any other number a refusal; and the value.
-#[derive(Clone, Copy)]
-pub struct Answer {
-    pub number: u32,
-    pub value: u32,
+ghost use Rattle.std.specs.Prelude.{◌≡◌, ◌<◌};
+ghost use Rattle.answers.specs.Answers.{number, value, packed_answer};
+
+pub use refusal::Refusal;
+
+// The value of what was done; it is 0 where a call gives none.
+pub type Answer = Result<u32, Refusal>;
+
+// The number that a call answers: 0 is done, any other the refusal of that number.
+pub fn number(answer: Answer) -> u32
+    ensures { result ≡ number answer }
+{
+    match answer {
+        Ok(_) => 0,
+        Err(refusal) => u32::from(refusal),
+    }
+}
+
+// The value that a call answers; 0 goes with a refusal.
+pub fn value(answer: Answer) -> u32
+    ensures { result ≡ value answer }
+{
+    answer.unwrap_or(0)
 }
 
 // Number and value in one, as an exported call answers; the value takes the lower half.
 pub fn pack(answer: Answer) -> u64
-    ensures { (result ≡ packed_answer answer) × (answer.value < 4294967296) }
+    ensures { (result ≡ packed_answer answer) × (value answer < 4294967296) }
 {
-    answer.number as u64 * 4294967296 + answer.value as u64
+    u64::from(number(answer)) * 4294967296 + u64::from(value(answer))
 }

@@ -11,29 +11,54 @@ mod adler;
 mod serve;
 mod wire;
 
-ghost use Rattle.std.specs.Prelude.{◌≡◌, ◌≤◌, length, IfOk};
+ghost use Rattle.std.specs.Prelude.{◌≤◌, length, IfOk};
 
+use serve::Kept;
 use std::io;
 use std::io::Read;
+use wire::{Header, Stop};
 
 fn main(rt: HostRuntime) -> io::Result<()> {
-    let mut tables = eight_tables();
-    let mut lengths = [0u64; 8];
-    run(&rt, &mut tables, &mut lengths)
+    let mut tables = [Kept::EMPTY; 8];
+    run(&rt, &mut tables)
 }
 
-// Room for eight tables. The `ensures` gives only the length, which lending the array needs.
-fn eight_tables() -> [u8; 163840]
-    ensures { 163840 ≡ length result }
-{
-    [0; 163840]
+// Answers requests until there is none, or one is malformed.
+fn run(rt: &(impl Input + Print), tables: &mut [Kept; 8]) -> io::Result<()> {
+    // Each loop is proved to end, so this one has a last turn, which no input is long enough to reach.
+    for _ in 0..u64::MAX {
+        match one_request(rt, tables) {
+            Ok(()) => {}
+            Err(Stop::End) => break,
+            Err(Stop::Malformed) => return rt.write_all(&[255; 16]),
+            Err(Stop::Failed(e)) => return Err(e),
+        }
+    }
+    Ok(())
 }
 
-// Room for the longest payload. The `ensures` gives only the length, which lending the array needs.
-fn longest_payload() -> [u8; 65536]
-    ensures { 65536 ≡ length result }
-{
-    [0; 65536]
+// Reads and answers one request.
+fn one_request(rt: &(impl Input + Print), tables: &mut [Kept; 8]) -> Result<(), Stop> {
+    let mut bytes = [0u8; 64];
+    match read_full(rt, &mut bytes)? {
+        0 => return Err(Stop::End),
+        1..64 => return Err(Stop::Malformed),
+        _ => {}
+    }
+    let header = Header::try_from(&bytes)?;
+    let mut buffer = [0u8; 65536];
+    let payload = &mut buffer[..header.size];
+    if read_full(rt, payload)? < payload.len() {
+        return Err(Stop::Malformed);
+    }
+    let mut out = [165u8; 16384];
+    serve::answer(
+        rt,
+        &mut tables[header.slot],
+        header.request,
+        payload,
+        &mut out[..header.room],
+    )
 }
 
 // Reads until the buffer is full or the input ends, and answers how many bytes it put at its start. After an
@@ -43,75 +68,12 @@ fn read_full(rt: &impl Input, buf: &mut [u8]) -> io::Result<usize>
 {
     let mut reader = rt.reader();
     let mut done = 0;
+    // A read fills as much as it has, so this is no pass over a range.
     while done < buf.len() {
-        let n = reader.read(&mut buf[done..])?;
-        if n == 0 {
-            break;
+        match reader.read(&mut buf[done..])? {
+            0 => break,
+            n => done += n,
         }
-        done += n;
     }
     Ok(done)
-}
-
-// Answers requests until there is none, or one is malformed.
-fn run(rt: &(impl Input + Print), tables: &mut [u8], lengths: &mut [u64; 8]) -> io::Result<()>
-    requires { 163840 ≤ length tables.old }
-{
-    for _ in 0..u64::MAX {
-        if !one_request(rt, tables, lengths)? {
-            break;
-        }
-    }
-    Ok(())
-}
-
-// Reads and answers one request. False at the end of the input, and after a malformed request.
-fn one_request(
-    rt: &(impl Input + Print),
-    tables: &mut [u8],
-    lengths: &mut [u64; 8],
-) -> io::Result<bool>
-    requires { 163840 ≤ length tables.old }
-{
-    let mut header = [0u8; 64];
-    let got = read_full(rt, &mut header)?;
-    if got == 0 {
-        return Ok(false);
-    }
-    if got < 64 {
-        return malformed(rt);
-    }
-    if !wire::is_formed(&header) {
-        return malformed(rt);
-    }
-    let mut payload = longest_payload();
-    let size = wire::payload_size(&header);
-    if !with_payload(rt, tables, lengths, &header, &mut payload[..size])? {
-        return malformed(rt);
-    }
-    Ok(true)
-}
-
-// Fills the payload and answers the request. False where it is malformed.
-fn with_payload(
-    rt: &(impl Input + Print),
-    tables: &mut [u8],
-    lengths: &mut [u64; 8],
-    header: &[u8; 64],
-    payload: &mut [u8],
-) -> io::Result<bool>
-    requires { 163840 ≤ length tables.old }
-{
-    let read = read_full(rt, payload)?;
-    if read < payload.len() {
-        return Ok(false);
-    }
-    serve::answer(rt, tables, lengths, header, payload)
-}
-
-// Answers a malformed request, and says that there is nothing more to do.
-fn malformed(rt: &impl Print) -> io::Result<bool> {
-    let full = [255u8; 16];
-    rt.write_all(&full)?;
-    Ok(false)
 }

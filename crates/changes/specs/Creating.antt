@@ -6,7 +6,7 @@ use Rattle.std.proofs.Math.Option.{Option, some, none}
 use mathlib.Core.List.{List, [], ◌∷◌}
 use Rattle.std.proofs.lemmas.Bool.{lt-leb}
 use Rattle.codec.specs.Bytes.{u8_at}
-use Rattle.codec.specs.Lists.{and_true}
+use Rattle.codec.specs.Lists.{and_true, and_both}
 use Rattle.names.specs.declared.Name.{Name}
 use Rattle.names.specs.Names.{is_name, is_text, name_from, name_from_law}
 use Rattle.numbers.specs.Nodes.{is_within, is_set, join, single}
@@ -25,11 +25,49 @@ use Rattle.steps.specs.Standing.{Is}
 use Rattle.steps.specs.States.{issue_stated, held_head}
 use Rattle.changes.specs.Finishing.{Changes, changed, skip, stop}
 use Rattle.changes.specs.Working.{set_below, with_header, changes_on}
-use Rattle.changes.specs.Killing.{Takes, dead_is, live_is}
+use Rattle.answers.specs.declared.refusal.Refusal.{Refusal}
+use Rattle.answers.specs.Refusals.{code}
+use Rattle.changes.specs.declared.kind.Kind.{Kind}
+use Rattle.changes.specs.Kinds.{kind_byte, kind_within}
+use Rattle.changes.specs.Looking.{NoRoomFor}
+use Rattle.changes.specs.Killing.{Takes, dead_is, live_is, not_now, is_now_law}
 
 -- "2: .. set, kind or name outside its range; now above 2^40-1"
 abbrev pub are_good : ℕ → ℕ → ℕ → Name → ℕ → Bool
 are_good n now kind name set = is_now now && (is_within 1 kind 2 && (is_name name && is_set n set))
+
+-- the four tests, one at a time
+and_first : {a : Bool} (b : Bool) → a ≡ false → (a && b) ≡ false
+and_first b e = ap (λ (z : Bool). z && b) e
+
+and_next : (a : Bool) {b : Bool} → b ≡ false → (a && b) ≡ false
+and_next true e = e
+and_next false e = refl
+
+not_true : (b : Bool) → not b ≡ true → b ≡ false
+not_true true e = sym e
+not_true false e = refl
+
+not_false : (b : Bool) → not b ≡ false → b ≡ true
+not_false true e = refl
+not_false false e = sym e
+
+module _ (n now kind set : ℕ) (name : Name) where
+  pub bad_now : 1099511627775 < now → are_good n now kind name set ≡ false
+  bad_now h = and_first _ (not_true (is_now now) (not_now now h))
+
+  pub bad_kind : is_within 1 kind 2 ≡ false → are_good n now kind name set ≡ false
+  bad_kind e = and_next (is_now now) (and_first _ e)
+
+  pub bad_name : is_name name ≡ false → are_good n now kind name set ≡ false
+  bad_name e = and_next (is_now now) (and_next (is_within 1 kind 2) (and_first _ e))
+
+  pub bad_set : is_set n set ≡ false → are_good n now kind name set ≡ false
+  bad_set e = and_next (is_now now) (and_next (is_within 1 kind 2) (and_next (is_name name) e))
+
+  pub all_good : now ≤ 1099511627775 → is_within 1 kind 2 ≡ true → is_name name ≡ true → is_set n set ≡ true →
+      are_good n now kind name set ≡ true
+  all_good p q r s = and_both (not_false (is_now now) (is_now_law now p)) (and_both q (and_both r s))
 
 -- the head of a new replica
 abbrev pub born_head : ℕ → ℕ → ℕ → ℕ → Head → Name → Head
@@ -132,6 +170,10 @@ module _ (now kind : ℕ) (name : Name) (set : ℕ) (t : Table) (p : Head) where
     created_11 q d =
         created_rest ∙ skip 9 (name_taken p.id name t.entries) _ _ q ∙ stop 11 (deepest (some p)) _ _ (le-leb 16 p.depth d)
 
+    pub created_full : (r : Refusal) → NoRoomFor t p name r → created_in now kind name set t p ≡ refused (code r)
+    unfolding judged
+    created_full r w = created_rest ∙ w _
+
     pub created_makes : name_taken p.id name t.entries ≡ false → p.depth < 16 →
         created_in now kind name set t p ≡ makes now kind name set t p
     created_makes q d =
@@ -182,6 +224,16 @@ pub good_at : (l : List ℕ) (now kind : ℕ) (name : List ℕ) (set : ℕ) {n :
 good_at l now kind name set {n} {m} {r} e f g {b} q =
     ap (λ (z : ℕ). are_good z now kind (name_from name) set) (sym (e ∙ nodes_at l)) ∙ ap (λ (z : Name). are_good n now kind z set) (sym f)
     ∙ sym g ∙ q
+
+-- with the kind that a number names, and a name that was judged
+pub good_of : (l name : List ℕ) (set : ℕ) (k : Kind) {now kind n : ℕ} {m : Name} {r : Bool} → now ≤ 1099511627775 →
+    n ≡ u8_at l 3 → r ≡ is_set n set → r ≡ true → kind_byte k ≡ kind → m ≡ name_from name → is_name m ≡ true →
+    are_good (table_of l).nodes now kind (name_from name) set ≡ true
+good_of l name set k {now} {kind} {n} {m} h e f g p q w =
+    all_good (table_of l).nodes now kind set (name_from name) h
+    (subst (λ (z : ℕ). is_within 1 z 2 ≡ true) p (kind_within k))
+    (ap is_name (sym q) ∙ w)
+    (ap (λ (z : ℕ). is_set z set) (sym (e ∙ nodes_at l)) ∙ (sym f ∙ g))
 
 module _ (n now kind set : ℕ) (name : Name) (e : are_good n now kind name set ≡ true) where
   pub good_early : now ≤ 1099511627775

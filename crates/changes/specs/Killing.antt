@@ -15,6 +15,9 @@ use Rattle.views.specs.Puts.{head_id}
 use Rattle.views.specs.Sounds.{root_only, sound_table}
 use Rattle.steps.specs.Standing.{Is}
 use Rattle.steps.specs.States.{Held, issue_stated}
+use Rattle.answers.specs.declared.refusal.Refusal.{Refusal}
+use Rattle.answers.specs.declared.refusal.Refusal.TheVariants.{OutOfRange, NotHeld, Dead}
+use Rattle.answers.specs.Refusals.{code}
 use Rattle.changes.specs.Finishing.{Changes, changed, skip, stop}
 use Rattle.changes.specs.Looking.{slot_of, slot_held}
 use Rattle.changes.specs.Working.{drawn_on, place_there, place_held_law, changes_on}
@@ -73,13 +76,17 @@ pub record Takes (l : List ℕ) (now : ℕ) (h : Head) : Type 0 where
   pub early : now ≤ 1099511627775
   pub held : head_of (table_of l) h.id ≡ some h
 
+-- what a number that is held names
+pub takes_held : (l : List ℕ) (id now : ℕ) {h : Head} → sound_bytes l ≡ true → now ≤ 1099511627775 →
+    head_of (table_of l) id ≡ some h → Takes l now h × (h.id ≡ id)
+takes_held l id now {h} s early q =
+    let own = head_id id (table_of l).replicas h q in
+    (record { sound = s; early = early; held = ap (head_of (table_of l)) own ∙ q }, own)
+
 -- what was read where the number was found
 pub takes : (l : List ℕ) (id now : ℕ) {i : ℕ} {h : Head} → sound_bytes l ≡ true → now ≤ 1099511627775 → slot_of l id ≡ Some i →
     h ≡ head_at l (replica_slot i) → Takes l now h × (h.id ≡ id)
-takes l id now {i} {h} s early e r =
-    let q : head_of (table_of l) id ≡ some h = (slot_held l id i e).1 ∙ ap some (sym r) in
-    let own = head_id id (table_of l).replicas h q in
-    (record { sound = s; early = early; held = ap (head_of (table_of l)) own ∙ q }, own)
+takes l id now {i} {h} s early e r = takes_held l id now s early ((slot_held l id i e).1 ∙ ap some (sym r))
 
 -- its flag and its kind
 pub dead_is : (h : Head) → (h.live ≡ 1 → ⊥) → is_dead (some h) ≡ true
@@ -229,3 +236,25 @@ module _ {l : List ℕ} {now : ℕ} {h : Head} (k : Takes l now h) where
           record { sound = k.sound; early = k.early; held = k.held; below = z },
           remove_rest_law ∙ skip 10 (any_shown h.id (table_of l).entries || live_child h.id (table_of l).replicas) _ _ (child_rest ∙ q),
         )
+
+-- ---- what both refuse, and what both take
+
+-- the head that the number names, early enough, held and live
+abbrev pub Alive : List ℕ → ℕ → ℕ → Head → Type 0
+Alive l now id h = Takes l now h × (h.id ≡ id) × (h.live ≡ 1)
+
+-- both refuse the number
+abbrev pub Spared : List ℕ → ℕ → ℕ → Refusal → Type 0
+Spared l now id e =
+    (unlink_in now id (table_of l) ≡ refused (code e)) × (remove_in now id (table_of l) ≡ refused (code e))
+
+module _ (l : List ℕ) (now id : ℕ) where
+  pub spared_late : 1099511627775 < now → Spared l now id OutOfRange
+  spared_late h = (unlink_2 now id (table_of l) h, remove_2 now id (table_of l) h)
+
+  pub spared_not_held : now ≤ 1099511627775 → head_of (table_of l) id ≡ none → Spared l now id NotHeld
+  spared_not_held early e = (unlink_6 now id (table_of l) early e, remove_6 now id (table_of l) early e)
+
+  pub spared_dead : {h : Head} → Takes l now h × (h.id ≡ id) → (h.live ≡ 1 → ⊥) → Spared l now id Dead
+  spared_dead {h} k n =
+      subst (λ (i : ℕ). Spared l now i Dead) k.1 (unlink_7 k.0 n, remove_7 k.0 n)

@@ -1,7 +1,9 @@
 pub mod Creating
 pub mod Finishing
 pub mod Killing
+pub mod Kinds
 pub mod Looking
+pub mod Passes
 pub mod Renaming
 pub mod Spreading
 pub mod Working

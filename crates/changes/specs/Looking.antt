@@ -1,7 +1,7 @@
 -- What a call looks up in a table's bytes: the slot that a number names, and whether one of the slots passes a test.
 -- Assumes nothing.
-use Rattle.std.specs.Prelude.{◌≡◌, refl, Bool, true, false, ◌&&◌, ◌||◌, not, cond, List, ℕ, zero, suc, ◌+◌, ◌-◌, ◌≤◌, ◌<◌, eqb, ltb, Option, Some, None}
-use Rattle.std.proofs.Common.{ap, sym, ◌∙◌, arith, lt-ltb, le-ltb, ltb-true, ltb-false}
+use Rattle.std.specs.Prelude.{◌≡◌, refl, Bool, true, false, ◌&&◌, ◌||◌, not, cond, List, [], ◌∷◌, ℕ, zero, suc, ◌+◌, ◌-◌, ◌≤◌, ◌<◌, eqb, ltb, Option, Some, None}
+use Rattle.std.proofs.Common.{ap, sym, ◌∙◌, arith, lt-ltb, le-ltb, le-leb, ltb-true, ltb-false}
 use Rattle.std.proofs.Math.Option.{some, none}
 use Rattle.std.proofs.Math.Nat.{sub-zero}
 use Rattle.codec.specs.Bytes.{u8_at, u32_at, Bytes}
@@ -12,13 +12,18 @@ use Rattle.records.specs.Heads.{head_at, head_fields}
 use Rattle.slots.specs.declared.replica.Replica.{Replica}
 use Rattle.slots.specs.declared.listed.Listed.{Listed}
 use Rattle.slots.specs.Replicas.{replica_fields}
-use Rattle.document.specs.Tables.{head_of, slots_from, table_of, replica_slot, entry_slot, replica_in, entry_in, replicas_used, entries_used}
+use Rattle.document.specs.Tables.{Table, head_of, slots_from, table_of, replica_slot, entry_slot, replica_in, entry_in, replicas_used, entries_used}
 use Rattle.document.specs.Sound.{is_live, is_root_id}
-use Rattle.document.specs.Calls.{is_shown, name_taken, any_shown, live_child}
+use Rattle.document.specs.Outcomes.{Outcome, refused, judged}
+use Rattle.document.specs.Calls.{when, is_shown, name_taken, any_shown, live_child, deepest}
 use Rattle.document.specs.Reading.{few_replicas, live_at}
+use Rattle.answers.specs.declared.refusal.Refusal.{Refusal}
+use Rattle.answers.specs.declared.refusal.Refusal.TheVariants.{NameTaken, TooDeep}
+use Rattle.answers.specs.Refusals.{code}
 use Rattle.answers.specs.Held.{not_an_id}
 use Rattle.table.specs.Slots.{first_replica, directory_at}
 use Rattle.table.specs.Rules.{found_head, not_found}
+use Rattle.changes.specs.Finishing.{skip, stop}
 
 -- ---- the slot that a number names; one past 2^32-1 names none
 
@@ -127,7 +132,29 @@ pub shown_test : (l : List ℕ) (d s : ℕ) →
     is_shown_in d (entry_in l s) ≡ (eqb (u32_at l (entry_slot s + 32)) d && eqb (u8_at l (entry_slot s + 2)) 1)
 shown_test l d s = rw (directory_at l s, live_at l s) refl
 
+pub child_head : (l : List ℕ) (d s : ℕ) {h : Head} → h ≡ head_at l (replica_slot s) →
+    is_child_of d (replica_in l s) ≡ (eqb h.directory d && (is_live h && not (is_root_id h)))
+child_head l d s e =
+    ap (λ (h : Head). eqb h.directory d && (is_live h && not (is_root_id h)))
+    (ap (λ (r : Replica). r.head) (replica_fields l (replica_slot s)) ∙ sym e)
+
 pub child_test : (l : List ℕ) (d s : ℕ) →
     is_child_of d (replica_in l s)
     ≡ (eqb (u32_at l (replica_slot s + 20)) d && (eqb (u8_at l (replica_slot s + 3)) 1 && not (eqb (u32_at l (replica_slot s + 4)) 0)))
 child_test l d s = ap (λ (h : Head). eqb h.directory d && (is_live h && not (is_root_id h))) (ap (λ (r : Replica). r.head) (replica_fields l (replica_slot s)) ∙ head_fields l (replica_slot s))
+
+-- ---- "9" and "11": whether there is room for a name
+
+-- whatever is judged after, and done in the end, it is refused
+abbrev pub NoRoomFor : Table → Head → Name → Refusal → Type 0
+NoRoomFor t p name e =
+    (o : Outcome) →
+    judged (when 9 (name_taken p.id name t.entries) ∷ when 11 (deepest (some p)) ∷ []) o ≡ refused (code e)
+
+pub room_9 : (t : Table) (p : Head) (name : Name) → name_taken p.id name t.entries ≡ true → NoRoomFor t p name NameTaken
+room_9 t p name q o = stop 9 (name_taken p.id name t.entries) _ o q
+
+pub room_11 : (t : Table) (p : Head) (name : Name) → name_taken p.id name t.entries ≡ false → 16 ≤ p.depth →
+    NoRoomFor t p name TooDeep
+room_11 t p name q d o =
+    skip 9 (name_taken p.id name t.entries) _ o q ∙ stop 11 (deepest (some p)) _ o (le-leb 16 p.depth d)

@@ -18,6 +18,9 @@ use Rattle.steps.specs.Standing.{Is}
 use Rattle.steps.specs.States.{Held, issue_stated, held_head}
 use Rattle.changes.specs.Finishing.{Changes, changed, skip, stop}
 use Rattle.changes.specs.Working.{drawn_on, place_held_law, place_there, changes_on}
+use Rattle.answers.specs.declared.refusal.Refusal.{Refusal}
+use Rattle.answers.specs.Refusals.{code}
+use Rattle.changes.specs.Looking.{NoRoomFor}
 use Rattle.changes.specs.Killing.{Takes, not_now, is_now_law, dead_is, live_is}
 
 -- ---- the head at its new place
@@ -132,6 +135,10 @@ module _ (now : ℕ) (name : Name) (t : Table) (h p : Head) where
           renamed_11 q d =
               renamed_rest_law ∙ skip 9 (name_taken p.id name t.entries) _ _ q
               ∙ stop 11 (deepest (some p)) _ _ (le-leb 16 p.depth d)
+
+          pub renamed_full : (r : Refusal) → NoRoomFor t p name r → renamed_in now name t h p ≡ refused (code r)
+          unfolding judged
+          renamed_full r w = renamed_rest_law ∙ w _
 
           pub renamed_moves : name_taken p.id name t.entries ≡ false → p.depth < 16 → place_not_held t (some h) ≡ false →
               renamed_in now name t h p ≡ moves now name t h p

@@ -20,7 +20,7 @@ use Rattle.steps.specs.Putting.{has_slot}
 use Rattle.steps.specs.Grown.{Grown, grown_refl, grown_put}
 use Rattle.changes.specs.Finishing.{Ends, ended, skip, stop}
 use Rattle.changes.specs.Looking.{slot_of}
-use Rattle.changes.specs.Killing.{takes}
+use Rattle.changes.specs.Killing.{takes, takes_held}
 
 -- by what is held
 abbrev spread_of : ℕ → Table → Option Head → Outcome
@@ -76,6 +76,13 @@ module _ {l : List ℕ} {set : ℕ} {h : Head} (k : Spreads l set h) where
       (spread_of_law h.id set t ∙ ap (spread_of set t) k.held
       ∙ skip 2 (not (is_set t.nodes set)) _ _ (ap not k.good) ∙ skip 6 false _ _ refl
       ∙ skip 16 (too_many (spread_to set t h)) _ _ (spread_room set t h.id h (sound_table l k.sound) k.held))
+
+-- what a number that is held names
+pub spreads_held : (l : List ℕ) (id set : ℕ) {h : Head} → sound_bytes l ≡ true → is_set (table_of l).nodes set ≡ true →
+    head_of (table_of l) id ≡ some h → Spreads l set h × (h.id ≡ id)
+spreads_held l id set {h} s good q =
+    let k = takes_held l id 0 s (omega arith) q in
+    (record { sound = s; good = good; held = k.0.held }, k.1)
 
 -- what was read where the number was found
 pub spreads : (l : List ℕ) (id set : ℕ) {i : ℕ} {h : Head} → sound_bytes l ≡ true → is_set (table_of l).nodes set ≡ true →

@@ -4,24 +4,28 @@ ghost use Rattle.document.specs.Tables.{table_of};
 ghost use Rattle.document.specs.Sound.{sound_bytes};
 ghost use Rattle.document.specs.Calls.{create_in};
 ghost use Rattle.answers.specs.Forms.{Answered, Leaves};
-ghost use Rattle.changes.specs.Creating.{are_good, born_head, created_in, Makes, makes};
+ghost use Rattle.changes.specs.Creating.{born_head, created_in, Makes, makes};
 ghost use Rattle.changes.specs.Killing.{Takes};
+ghost use Rattle.changes.specs.Kinds.{kind_byte};
 
-use crate::{finish, look};
-use answers::Answer;
+use crate::kind::Kind;
+use crate::{LATEST, finish, look};
+use answers::{Answer, Refusal};
+use codec::Stored;
 use names::Name;
 use numbers::nodes;
 use records::Head;
+use slots::Table;
 use steps::state;
-use table::find;
 
 // The first head of a replica in the directory.
-fn born(kind: u8, id: u32, stamp: u64, holders: u8, p: Head, name: Name) -> Head
+// Its values stand in the order of `born_head`; a struct that holds them would be the head itself.
+fn born(kind: Kind, id: u32, stamp: u64, holders: u8, p: Head, name: Name) -> Head
     requires { p.depth < 16 }
-    ensures { result ≡ born_head kind id stamp holders p name }
+    ensures { result ≡ born_head (kind_byte kind) id stamp holders p name }
 {
     Head {
-        kind,
+        kind: u8::from(kind),
         live: 1,
         id,
         stamp,
@@ -33,15 +37,15 @@ fn born(kind: u8, id: u32, stamp: u64, holders: u8, p: Head, name: Name) -> Head
 }
 
 // Makes the replica in the directory.
-fn make(table: &mut [u8], time: u64, p: Head, kind: u8, name: Name, set: u8) -> Answer
+fn make(table: &mut Table, time: u64, p: Head, kind: Kind, name: Name, set: u8) -> Answer
     requires { Makes table.old time p }
-    ensures { Leaves Answered (makes time kind name set (table_of table.old) p) result
+    ensures { Leaves Answered (makes time (kind_byte kind) name set (table_of table.old) p) result
         table.old table.new }
 {
-    let mut copy = finish::copy_of(table);
+    let mut copy = *table;
     let id = state::take_id(&mut copy);
     let stamp = state::draw(&mut copy, time);
-    let holders = nodes::join(set, nodes::single(codec::get_u8(table, 2)));
+    let holders = nodes::join(set, nodes::single(u8::read(table, 2)));
     finish::change(
         table,
         &mut copy,
@@ -50,59 +54,25 @@ fn make(table: &mut [u8], time: u64, p: Head, kind: u8, name: Name, set: u8) -> 
     )
 }
 
-// Whether time, kind, name and set are in their ranges.
-fn are_good(n: u8, time: u64, kind: u64, name: Name, set: u64) -> bool
-    requires { n ≤ 8 }
-    ensures { result ≡ are_good n time kind name set }
-{
-    if 1099511627775 < time {
-        return false;
-    }
-    if !numbers::is_within(1, kind, 2) {
-        return false;
-    }
-    if !name.is_name() {
-        return false;
-    }
-    nodes::is_set(n, set)
-}
-
 // Creates in what is held.
-fn create_in(table: &mut [u8], time: u64, p: Head, kind: u8, name: Name, set: u8) -> Answer
+fn create_in(table: &mut Table, time: u64, p: Head, kind: Kind, name: Name, set: u8) -> Answer
     requires { Takes table.old time p }
-    ensures { Leaves Answered (created_in time kind name set (table_of table.old) p) result
+    ensures { Leaves Answered (created_in time (kind_byte kind) name set (table_of table.old) p) result
         table.old table.new }
 {
-    if p.live != 1 {
-        return Answer {
-            number: 7,
-            value: 0,
-        };
+    if !p.is_live() {
+        return Err(Refusal::Dead);
     }
-    if p.kind != 2 {
-        return Answer {
-            number: 8,
-            value: 0,
-        };
+    if !p.is_directory() {
+        return Err(Refusal::WrongKind);
     }
-    if look::is_name_taken(table, find::entries_used(table), p.id, name) {
-        return Answer {
-            number: 9,
-            value: 0,
-        };
-    }
-    if 16 <= p.depth {
-        return Answer {
-            number: 11,
-            value: 0,
-        };
-    }
+    look::room_for(table, p, name)?;
     make(table, time, p, kind, name, set)
 }
 
 // Creates a file (1) or a directory (2); the value is its id.
 pub fn create(
-    table: &mut [u8],
+    table: &mut Table,
     time: u64,
     directory: u64,
     kind: u64,
@@ -113,26 +83,14 @@ pub fn create(
     ensures { Leaves Answered (create_in time directory kind name.now set (table_of table.old)) result
         table.old table.new }
 {
-    let given = Name::from(name);
-    if !are_good(codec::get_u8(table, 3), time, kind, given, set) {
-        return Answer {
-            number: 2,
-            value: 0,
-        };
+    if LATEST < time || !nodes::is_set(u8::read(table, 3), set) {
+        return Err(Refusal::OutOfRange);
     }
-    let found = look::slot_of(table, directory);
-    let Some(i) = found else {
-        return Answer {
-            number: 6,
-            value: 0,
-        };
+    let kind = Kind::try_from(kind)?;
+    let Some(name) = Name::parse(name) else {
+        return Err(Refusal::OutOfRange);
     };
-    create_in(
-        table,
-        time,
-        Head::read(table, 32 + 48 * i),
-        kind as u8,
-        given,
-        set as u8,
-    )
+    let p = look::held(table, directory)?;
+    // `is_set` has it below 256, so a try_from could not fail.
+    create_in(table, time, p, kind, name, set as u8)
 }

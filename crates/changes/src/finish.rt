@@ -1,72 +1,40 @@
 // The end of every call that works on a copy: a state is set, versions are raised, and the copy comes
 // back, if there is room and nothing is past its end.
-ghost use Rattle.std.specs.Prelude.{◌≡◌, length};
 ghost use Rattle.document.specs.Tables.{table_of};
 ghost use Rattle.answers.specs.Forms.{Answered, Leaves};
 ghost use Rattle.changes.specs.Finishing.{Ends, Changes, ended, changed};
 
-use answers::Answer;
+use crate::LATEST;
+use answers::{Answer, Refusal};
+use codec::Stored;
 use records::Head;
-use slots::TableHeader;
+use slots::{Table, TableHeader};
 use steps::{settle, state};
 
-// As many bytes as a table has. The `ensures` gives only the length.
-fn blank() -> [u8; 13344]
-    ensures { 13344 ≡ length result }
-{
-    [0; 13344]
-}
-
-// A copy of a table's bytes.
-pub fn copy_of(table: &[u8]) -> [u8; 13344]
-    requires { length table.now ≡ 13344 }
-    ensures { result ≡ table.now }
-{
-    let mut copy = blank();
-    codec::replace(&mut copy, 0, table);
-    copy
-}
+// A node makes no more ids than 2^24-1, and the next count is one more at the most.
+const NEXT_MOST: u32 = 1 << 24;
 
 // Ends a call whose steps are done on the copy.
-pub fn finish(table: &mut [u8], copy: &mut [u8], value: u32) -> Answer
+pub fn finish(table: &mut Table, copy: &mut Table, value: u32) -> Answer
     requires { Ends table.old copy.old }
     ensures { Leaves Answered (ended value (table_of table.old) (table_of copy.old)) result
         table.old table.new }
 {
     let header = TableHeader::read(copy, 0);
-    if 1099511627775 < header.highest {
-        return Answer {
-            number: 17,
-            value: 0,
-        };
+    if LATEST < header.highest || NEXT_MOST < header.next {
+        return Err(Refusal::PastEnd);
     }
-    if 16777216 < header.next {
-        return Answer {
-            number: 17,
-            value: 0,
-        };
-    }
-    if !settle::settle(table, copy) {
-        return Answer {
-            number: 17,
-            value: 0,
-        };
-    }
-    codec::replace(table, 0, copy);
-    Answer { number: 0, value }
+    settle::settle(table, copy).or(Err(Refusal::PastEnd))?;
+    *table = *copy;
+    Ok(value)
 }
 
 // Sets the state on the copy and ends the call.
-pub fn change(table: &mut [u8], copy: &mut [u8], h: Head, value: u32) -> Answer
+pub fn change(table: &mut Table, copy: &mut Table, h: Head, value: u32) -> Answer
     requires { Changes table.old copy.old h }
     ensures { Leaves Answered (changed value h (table_of table.old) (table_of copy.old)) result
         table.old table.new }
 {
-    if !state::state(copy, h) {
-        return Answer {
-            number: 16,
-            value: 0,
-        };
-    }
+    state::state(copy, h).or(Err(Refusal::NoRoom))?;
     finish(table, copy, value)
 }

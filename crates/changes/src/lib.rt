@@ -4,8 +4,12 @@
 
 pub mod create;
 pub mod finish;
+pub mod kind;
 pub mod look;
 pub mod remove;
 pub mod rename;
 pub mod spread;
 pub mod unlink;
+
+// No clock is past 2^40-1, and no call is made later.
+pub const LATEST: u64 = (1 << 40) - 1;

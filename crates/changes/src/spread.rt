@@ -8,43 +8,35 @@ ghost use Rattle.answers.specs.Forms.{Answered, Leaves};
 ghost use Rattle.changes.specs.Spreading.{Spreads};
 
 use crate::{finish, look};
-use answers::Answer;
+use answers::{Answer, Refusal};
+use codec::Stored;
 use numbers::nodes;
 use records::Head;
+use slots::Table;
 use steps::{put, state};
 
 // Spreads what is held.
-fn spread_held(table: &mut [u8], set: u8, h: Head) -> Answer
+fn spread_held(table: &mut Table, set: u8, h: Head) -> Answer
     requires { Spreads table.old set h }
     ensures { Leaves Answered (spread_in h.id set (table_of table.old)) result
         table.old table.new }
 {
-    let mut copy = finish::copy_of(table);
-    put::put(
-        &mut copy,
-        state::with_holders(h, nodes::join(h.holders, set)),
-    );
+    let mut copy = *table;
+    let wider = state::with_holders(h, nodes::join(h.holders, set));
+    put::put(&mut copy, wider).or(Err(Refusal::NoRoom))?;
     finish::finish(table, &mut copy, 0)
 }
 
 // Spreads the replica to the nodes of the set.
-pub fn spread(table: &mut [u8], id: u64, set: u64) -> Answer
+pub fn spread(table: &mut Table, id: u64, set: u64) -> Answer
     requires { sound_bytes table.old ≡ true }
     ensures { Leaves Answered (spread_in id set (table_of table.old)) result
         table.old table.new }
 {
-    if !nodes::is_set(codec::get_u8(table, 3), set) {
-        return Answer {
-            number: 2,
-            value: 0,
-        };
+    if !nodes::is_set(u8::read(table, 3), set) {
+        return Err(Refusal::OutOfRange);
     }
-    let found = look::slot_of(table, id);
-    let Some(i) = found else {
-        return Answer {
-            number: 6,
-            value: 0,
-        };
-    };
-    spread_held(table, set as u8, Head::read(table, 32 + 48 * i))
+    let h = look::held(table, id)?;
+    // `is_set` has it below 256, so a try_from could not fail.
+    spread_held(table, set as u8, h)
 }

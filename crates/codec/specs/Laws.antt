@@ -1,14 +1,19 @@
 -- Laws of `Bytes`, each once, over the width: what a part of a part is, splices, zeros, numbers and their bytes,
 -- and how straight-line code that reads or stores byte by byte meets them. Assumes nothing.
 use Rattle.std.specs.Prelude.{◌≡◌, refl, ℕ, zero, suc, ◌+◌, ◌*◌, ◌-◌, ◌/◌, ◌%◌, ◌^◌, ◌≤◌, ◌<◌, List, [], ◌∷◌, ◌++◌, eqb, Bool, true, false, ◌&&◌, length, take, drop, get_or, set}
+use Rattle.std.specs.Int.{w32, w64, to_le_bytes, from_le_bytes}
+use Rattle.std.specs.List.{list_all}
+use Rattle.std.specs.Simd.{first_chunks}
+use lib.Pointwise.{pointwise}
 use Rattle.std.proofs.Common.{ap, sym, ◌∙◌, add-zero, zero-add, add-suc, suc-add, add_assoc, mul_assoc, pow-suc, add-one, arith, append_assoc, append-nil, true≢false, eqb-true, eq-eqb, length-append, length-take, length-drop, length-set, take-append-drop, drop_of_length-le, drop-cons, take_at, drop_at, drop-drop, length-take-le, take-add, ext_get_or, get_or-take, get_or-drop, take_all}
 use Rattle.std.proofs.Math.Nat.{sub-zero, pow-succ'}
+use Rattle.std.proofs.Math.Bool.{and_assoc}
 use Rattle.std.proofs.Math.Decide.{dec_lt}
 use Rattle.std.proofs.Math.ListN.{get_or-eq_default}
 use Rattle.std.proofs.Math.Seq.{drop-nil, take-nil, take-length}
 use Rattle.std.proofs.lemmas.List.{set_split}
-use Rattle.codec.specs.Bytes.{chunk, splice, le, bytes_of, joined, same_bytes, marked_at, zero_at, zeros, all_are, Bytes}
-use Rattle.codec.specs.Lists.{every, and_true}
+use Rattle.codec.specs.Bytes.{chunk, splice, le, bytes_of, u8_at, u32_at, u64_at, joined, same_bytes, marked_at, zero_at, zeros, all_are, Bytes}
+use Rattle.codec.specs.Lists.{every, every_append, and_true, and_both, both_ways}
 
 -- ---- lengths
 
@@ -42,9 +47,23 @@ chunk_chunk l o n p m h =
     let hin : p + i < n = omega arith in
     get_or_chunk (chunk l o n) p m i him ∙ get_or_chunk l o n (p + i) hin ∙ ap (λ (k : ℕ). get_or l k 0) (omega arith) ∙ sym (get_or_chunk l (o + p) m i him))
 
+-- what a part of a part holds is what that part of the whole holds
+pub of_chunk : {A : Type 0} (of : List ℕ → A) (m : ℕ) (l : List ℕ) (o n p : ℕ) → p + m ≤ n → of (chunk (chunk l o n) p m) ≡ of (chunk l (o + p) m)
+of_chunk of m l o n p h = ap of (chunk_chunk l o n p m h)
+
 -- a part that begins a part
 pub first_chunk : (l : List ℕ) (o n m : ℕ) → m ≤ n → chunk (chunk l o n) 0 m ≡ chunk l o m
 first_chunk l o n m h = chunk_chunk l o n 0 m (omega arith) ∙ ap (λ (k : ℕ). chunk l k m) (add-zero o)
+
+-- a number within a part
+pub u8_within : (l : List ℕ) (o n p : ℕ) → p + 1 ≤ n → u8_at (chunk l o n) p ≡ u8_at l (o + p)
+u8_within l o n p h = get_or_chunk l o n p (omega arith)
+
+pub u32_within : (l : List ℕ) (o n p : ℕ) → p + 4 ≤ n → u32_at (chunk l o n) p ≡ u32_at l (o + p)
+u32_within l o n p h = ap le (chunk_chunk l o n p 4 h)
+
+pub u64_within : (l : List ℕ) (o n p : ℕ) → p + 8 ≤ n → u64_at (chunk l o n) p ≡ u64_at l (o + p)
+u64_within l o n p h = ap le (chunk_chunk l o n p 8 h)
 
 -- two parts, one behind the other
 pub chunk_add : (l : List ℕ) (o a b : ℕ) → chunk l o (a + b) ≡ chunk l o a ++ chunk l (o + a) b
@@ -149,6 +168,25 @@ unfolding le
 le_append [] ys = omega arith
 le_append (x ∷ xs) ys = omega (arith, le_append xs ys, pow_step (length xs) (le ys))
 
+-- std's bytes of a number, and these
+pub u32_to_le : (v : ℕ) → to_le_bytes w32 v ≡ bytes_of 4 v
+unfolding bytes_of
+u32_to_le v =
+    let b2 : v / 65536 ≡ v / 256 / 256 = omega arith in
+    let b3 : v / 16777216 ≡ v / 256 / 256 / 256 = omega arith in
+    cc (b2, b3)
+
+pub u64_to_le : (v : ℕ) → to_le_bytes w64 v ≡ bytes_of 8 v
+unfolding bytes_of
+u64_to_le v =
+    let b2 : v / 65536 ≡ v / 256 / 256 = omega arith in
+    let b3 : v / 16777216 ≡ v / 256 / 256 / 256 = omega arith in
+    let b4 : v / 4294967296 ≡ v / 256 / 256 / 256 / 256 = omega arith in
+    let b5 : v / 1099511627776 ≡ v / 256 / 256 / 256 / 256 / 256 = omega arith in
+    let b6 : v / 281474976710656 ≡ v / 256 / 256 / 256 / 256 / 256 / 256 = omega arith in
+    let b7 : v / 72057594037927936 ≡ v / 256 / 256 / 256 / 256 / 256 / 256 / 256 = omega arith in
+    cc (b2, b3, b4, b5, b6, b7)
+
 -- ---- straight-line code: bytes read one by one, and stored one by one
 
 -- the first byte, and the number that the others are; a byte past the end counts as 0
@@ -167,6 +205,17 @@ le_none l o = refl
 
 pub u32_bytes : (l : List ℕ) (o : ℕ) → le (chunk l o 4) ≡ get_or l o 0 + 256 * (get_or l (o + 1) 0 + 256 * (get_or l (o + 2) 0 + 256 * get_or l (o + 3) 0))
 u32_bytes l o = omega (arith, rw add-zero at (le_step_at l o 0 3), le_step_at l o 1 2, le_step_at l o 2 1, le_step_at l o 3 0, le_none l (o + 4))
+
+pub u64_bytes : (l : List ℕ) (o : ℕ) → le (chunk l o 8) ≡ get_or l o 0 + 256 * (get_or l (o + 1) 0 + 256 * (get_or l (o + 2) 0 + 256 * (get_or l (o + 3) 0
+    + 256 * (get_or l (o + 4) 0 + 256 * (get_or l (o + 5) 0 + 256 * (get_or l (o + 6) 0 + 256 * get_or l (o + 7) 0))))))
+u64_bytes l o = omega (arith, rw add-zero at (le_step_at l o 0 7), le_step_at l o 1 6, le_step_at l o 2 5, le_step_at l o 3 4, le_step_at l o 4 3, le_step_at l o 5 2, le_step_at l o 6 1, le_step_at l o 7 0, le_none l (o + 8))
+
+-- std's number of four and of eight bytes, and these
+pub from_le_u32 : (l : List ℕ) (o : ℕ) → from_le_bytes w32 (chunk l o 4) ≡ u32_at l o
+from_le_u32 l o = omega (arith, u32_bytes (chunk l o 4) 0, ap le (first_chunk l o 4 4 (omega arith)))
+
+pub from_le_u64 : (l : List ℕ) (o : ℕ) → from_le_bytes w64 (chunk l o 8) ≡ u64_at l o
+from_le_u64 l o = omega (arith, u64_bytes (chunk l o 8) 0, ap le (first_chunk l o 8 8 (omega arith)))
 
 -- four bytes are below 2^32
 pub u32_below : (l : List ℕ) (o : ℕ) → Bytes l → le (chunk l o 4) < 2 ^ 32
@@ -273,6 +322,14 @@ same_length_false (x ∷ s) (y ∷ t) h = go (eqb x y) (same_length_false s t (�
     go true e = e
     go false e = refl
 
+-- std's comparison of two lists, and this one
+pub same_pointwise : (s t : List ℕ) → pointwise eqb s t ≡ same_bytes s t
+unfolding same_bytes
+same_pointwise [] [] = refl
+same_pointwise [] (y ∷ t) = refl
+same_pointwise (x ∷ s) [] = refl
+same_pointwise (x ∷ s) (y ∷ t) = ap (λ (b : Bool). eqb x y && b) (same_pointwise s t)
+
 -- what is found the same is equal, and the other way round
 pub same_eq : (s t : List ℕ) → same_bytes s t ≡ true → s ≡ t
 unfolding same_bytes
@@ -354,3 +411,33 @@ skipped (suc n) (x ∷ s) h = simp (eq-eqb x 0 (omega arith)) (skipped n s (omeg
 pub zeros_skipped : (l : List ℕ) (o n : ℕ) → le (chunk l o n) ≡ 0 → all_are 0 (drop o l) ≡ all_are 0 (drop (o + n) l)
 unfolding chunk
 zeros_skipped l o n h = skipped n (drop o l) h ∙ ap (all_are 0) (drop-drop n o l)
+
+-- all bytes are zero exactly if their number is
+sum_zero : (x n : ℕ) → eqb (x + 256 * n) 0 ≡ (eqb x 0 && eqb n 0)
+sum_zero x n =
+    both_ways _ _
+    (λ e. let z = eqb-true (x + 256 * n) 0 e in and_both (eq-eqb x 0 (omega arith)) (eq-eqb n 0 (omega arith)))
+    (λ e. let p = and_true (eqb x 0) (eqb n 0) e in eq-eqb (x + 256 * n) 0 (omega (arith, eqb-true x 0 p.0, eqb-true n 0 p.1)))
+
+le_zero : (l : List ℕ) → eqb (le l) 0 ≡ all_are 0 l
+unfolding le every
+le_zero [] = refl
+le_zero (x ∷ l) = sum_zero x (le l) ∙ ap (λ (b : Bool). eqb x 0 && b) (le_zero l)
+
+-- all are zero exactly if the number of each of the first k eights is, and all behind those are
+eight_zero : (s : List ℕ) → eqb (from_le_bytes w64 (take 8 s)) 0 ≡ all_are 0 (take 8 s)
+unfolding chunk
+eight_zero s = ap (λ (k : ℕ). eqb k 0) (from_le_u64 s 0) ∙ le_zero (take 8 s)
+
+pub zero_eights : (k : ℕ) (s : List ℕ) →
+    (list_all (λ (x : List ℕ). eqb (from_le_bytes w64 x) 0) (first_chunks 8 k s) && all_are 0 (drop (k * 8) s)) ≡ all_are 0 s
+zero_eights zero s = refl
+zero_eights (suc k) s =
+    let eights : Bool = list_all (λ (x : List ℕ). eqb (from_le_bytes w64 x) 0) (first_chunks 8 k (drop 8 s)) in
+    ap (λ (r : List ℕ). (eqb (from_le_bytes w64 (take 8 s)) 0 && eights) && all_are 0 r)
+    (ap (λ (m : ℕ). drop m s) {x = suc k * 8} {y = 8 + k * 8} (omega arith) ∙ sym (drop-drop (k * 8) 8 s))
+    ∙ and_assoc (eqb (from_le_bytes w64 (take 8 s)) 0) eights (all_are 0 (drop (k * 8) (drop 8 s)))
+    ∙ ap (λ (b : Bool). eqb (from_le_bytes w64 (take 8 s)) 0 && b) (zero_eights k (drop 8 s))
+    ∙ ap (λ (b : Bool). b && all_are 0 (drop 8 s)) (eight_zero s)
+    ∙ sym (every_append _ (take 8 s) (drop 8 s))
+    ∙ ap (all_are 0) (take-append-drop 8 s)

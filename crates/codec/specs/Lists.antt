@@ -1,6 +1,8 @@
 -- A test on every element of a list, and conjunctions as code decides them: what every loop that looks for a fault, and
 -- every function with a `return` for each test, cites. Assumes nothing.
-use Rattle.std.specs.Prelude.{◌≡◌, refl, ℕ, ◌+◌, ◌≤◌, ◌<◌, Bool, true, false, ◌&&◌, ◌||◌, not, length, get_or, drop}
+use Rattle.std.specs.Prelude.{◌≡◌, refl, ℕ, ◌+◌, ◌≤◌, ◌<◌, Bool, true, false, ◌&&◌, ◌||◌, not, ◌++◌, length, get_or, drop}
+use Rattle.std.specs.List.{list_all}
+use Rattle.std.proofs.Math.Bool.{and_assoc}
 use Rattle.std.proofs.Common.{ap, sym, ◌∙◌, add-one, true≢false, drop_of_length-le, drop-cons}
 use mathlib.Core.List.{List, [], ◌∷◌, Memᴰ}
 use Rattle.std.proofs.lemmas.Bool.{not-true, not-false}
@@ -9,6 +11,17 @@ use Rattle.std.proofs.lemmas.Bool.{not-true, not-false}
 unfoldable pub every : {A : Type 0} → (A → Bool) → List A → Bool
 every f [] = true
 every f (x ∷ xs) = f x && every f xs
+
+pub every_append : {A : Type 0} (f : A → Bool) (xs ys : List A) → every f (xs ++ ys) ≡ (every f xs && every f ys)
+unfolding every
+every_append f [] ys = refl
+every_append f (x ∷ xs) ys = ap (λ (b : Bool). f x && b) (every_append f xs ys) ∙ sym (and_assoc (f x) (every f xs) (every f ys))
+
+-- std's test on every element, and this one
+pub every_list_all : {A : Type 0} (f : A → Bool) (l : List A) → list_all f l ≡ every f l
+unfolding every
+every_list_all f [] = refl
+every_list_all f (x ∷ xs) = ap (λ (b : Bool). f x && b) (every_list_all f xs)
 
 -- ---- a loop over i: those from i on are the i-th, if there is one, and those after it
 

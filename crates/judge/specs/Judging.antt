@@ -24,6 +24,7 @@ use Rattle.table.specs.Slots.{every_slots}
 use Rattle.views.specs.Sounds.{Sound, sound_table}
 use Rattle.kept.specs.MessageFacts.{MessageSays, message_says}
 use Rattle.kept.specs.ReceiveAbove.{steady_B}
+use Rattle.steps.specs.Message.{Sized}
 use Rattle.judge.specs.Apart.{none_odd, odd_apart}
 use Rattle.judge.specs.Keys.{joins_distinct}
 
@@ -144,6 +145,9 @@ counted n l h p r e = subst (λ (z : PushHeader). Counted l z.heads z.entries) (
 
 pub counted_least : (n : ℕ) (l : List ℕ) (p : Push) → read_push n l ≡ some p → 16 ≤ length l
 counted_least n l p r = omega (arith, (counts n l p r).size)
+
+pub counted_sized : (n : ℕ) (l : List ℕ) (p : Push) → read_push n l ≡ some p → Sized l
+counted_sized n l p r = let c = counts n l p r in record { size = c.size; one = c.some_heads }
 
 every_map : {A B : Type 0} (f : B → Bool) (g : A → B) (l : List A) → every f (map g l) ≡ every (λ x. f (g x)) l
 unfolding every

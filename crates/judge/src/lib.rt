@@ -12,30 +12,21 @@ ghost use Rattle.document.specs.Sound.{sound_bytes};
 ghost use Rattle.document.specs.Messages.{message_of, read_push};
 ghost use Rattle.document.specs.Receive.{odd};
 
-use messages::PushHeader;
-use records::Head;
-use table::find;
+use slots::Table;
+use steps::join::Entries;
+use steps::message::Message;
 
 // Whether the message is at odds with the table: a head, an entry of the pushed directory, or one that
 // a replica made, or whose state is taken, would set.
-pub fn is_odd(table: &[u8], message: &[u8]) -> bool
+pub fn is_odd(table: &Table, message: &[u8]) -> bool
     requires { (sound_bytes table.now ≡ true)
         × (read_push (table_of table.now).nodes message.now ≡ some (message_of message.now)) }
     ensures { result ≡ odd (message_of message.now) (table_of table.now) }
 {
-    let header = PushHeader::read(message, 0);
-    let heads = header.heads as usize;
-    let m = find::replicas_used(table);
-    let k = find::entries_used(table);
-    if !heads::agree(table, m, message, heads) {
-        return true;
-    }
-    let first = Head::read(message, 16);
-    if !joins::entries_agree(table, k, message, first.id, heads, header.entries as usize) {
-        return true;
-    }
-    if !joins::above_agree(table, m, k, message, heads) {
-        return true;
-    }
-    !joins::first_agrees(table, m, k, first)
+    let message = Message::of(message);
+    let entries = Entries::of(table);
+    !(heads::agree(table, &message)
+        && joins::entries_agree(&entries, &message)
+        && joins::above_agree(&entries, &message)
+        && joins::first_agrees(&entries, message.first))
 }

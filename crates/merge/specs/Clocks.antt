@@ -1,6 +1,14 @@
 -- Step (a) of a receive, as the code takes it: the heads' clocks, then the entries'. Assumes nothing.
-use Rattle.std.specs.Prelude.{◌≡◌, refl, List, [], ◌∷◌, ◌++◌, map, ℕ, ◌+◌, ◌-◌, ◌^◌, ◌≤◌, ◌<◌, max}
+use Rattle.std.specs.Prelude.{◌≡◌, refl, List, [], ◌∷◌, ◌++◌, map, ℕ, zero, suc, ◌+◌, ◌-◌, ◌^◌, ◌≤◌, ◌<◌, max}
 use Rattle.std.proofs.Common.{ap, sym, subst, ◌∙◌, arith}
+use Rattle.std.specs.List.{range_with_len, fold, FoldsTo}
+use Rattle.std.proofs.iter.Yields.{nat_range_steps}
+use Rattle.std.proofs.lemmas.Iterator.{YieldsList-from_range}
+use Rattle.std.proofs.lemmas.Iterator.Consumers.{fold_from_yields_List}
+use Rattle.std.specs.Fn.{Called}
+use Rattle.std.specs.Iterator.{Drains}
+use Rattle.std.specs.declared.ops.Range.{Range}
+use denote.Param.Members.{Mut}
 use Rattle.codec.specs.Bytes.{splice, Bytes}
 use Rattle.numbers.specs.Ids.{clock_of}
 use Rattle.records.specs.declared.head.Head.{Head}
@@ -39,6 +47,24 @@ high_next g n i c s d h e f =
 pub high_end : (g : ℕ → ℕ) (n i c : ℕ) → n ≤ i → highest c (slots_from g i (n - i)) ≡ c
 unfolding highest
 high_end g n i c h = ap (highest c) (slots_end g n i h)
+
+-- as a fold over the numbers of a range comes to it
+high_range : (g : ℕ → ℕ) (s n c : ℕ) → fold (λ c i. max c (clock_of (g i))) c (range_with_len s n) ≡ highest c (slots_from g s n)
+unfolding highest slots_from
+high_range g s zero c = refl
+high_range g s (suc n) c =
+    ap (λ (j : ℕ). fold (λ c i. max c (clock_of (g i))) (max c (clock_of (g s))) (range_with_len j n)) {x = s + 1} {y = suc s} (omega arith)
+    ∙ high_range g (suc s) n (max c (clock_of (g s)))
+
+pub high_ran : {F : Type 0} {p : Mut F (ℕ × (ℕ × Unit {0})) ℕ} (g : ℕ → ℕ) (s : Range ℕ) (f : F) (c r n : ℕ) →
+    (xs : List ℕ) × (q : F) × Drains nat_range_steps s xs
+    × FoldsTo {P = F × ℕ} (λ a x b. Called p a.0 (a.1, (x, tt)) b.1 b.0) (f, c) xs (q, r) →
+    s.end - s.start ≡ n →
+    ((a x b : ℕ) (q : F) → Called p f (a, (x, tt)) b q → (q ≡ f) × (b ≡ max a (clock_of (g x)))) →
+    r ≡ highest c (slots_from g s.start n)
+high_ran {p = p} g s f c r n ran e is =
+    fold_from_yields_List p (λ c i. max c (clock_of (g i))) c r ran (YieldsList-from_range s.start s.end n refl e) is
+    ∙ high_range g s.start n c
 
 -- ---- all clocks of the message
 

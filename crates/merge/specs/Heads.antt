@@ -12,7 +12,7 @@ use Rattle.document.specs.ReadingMessages.{head_in}
 use Rattle.steps.specs.Standing.{Is}
 use Rattle.steps.specs.Putting.{has_slot}
 use Rattle.steps.specs.States.{Made, Housed, made_past}
-use Rattle.merge.specs.Working.{Works, made_works, made_none, made_full, made_as, made_is, put_made, housed_put, many_more}
+use Rattle.merge.specs.Working.{Works, Owns, made_works, made_none, made_full, made_as, made_is, put_made, housed_put, many_more}
 use Rattle.merge.specs.Turns.{down, down_to, Down, down_start, down_turn, down_full, down_end}
 use Rattle.merge.specs.Message.{heads_in, above_are}
 use Rattle.merge.specs.Keeping.{past_first}
@@ -74,10 +74,9 @@ module _ (m : List ℕ) (t : Table) where
   goal : down_to missing (head_in m) (heads_in m) t 1 ≡ step_b (message_of m).above t
   goal = sym (ap (λ (hs : List Head). step_b hs t) (above_are m) ∙ above_down _ t)
 
-  pub making_start : {l : List ℕ} → 1 ≤ heads_in m → Works l → table_of l ≡ t → t.own ≤ 8 → Making (heads_in m) l
-  making_start {l} low w e o =
-      down_start missing (head_in m) (heads_in m) t Owned _ _ _ low w e
-      (w.housed, subst (λ (u : Table). u.own ≤ 8) (sym e) o)
+  pub making_start : {l : List ℕ} → 1 ≤ heads_in m → Owns l → table_of l ≡ t → Making (heads_in m) l
+  making_start low w e =
+      down_start missing (head_in m) (heads_in m) t Owned _ _ _ low w.works e (w.works.housed, w.own)
 
   pub making_turn : {l l' : List ℕ} (j : ℕ) → Making j l → 1 < j → (h : Head) → h ≡ head_in m (j - 1) → (r : Bool) →
       Made r l' (missing h (table_of l)) → r ≡ true → Making (j - 1) l'
@@ -114,7 +113,7 @@ taken_made {l} h x w i p q = made_is (ap (λ (z : Head). put z (table_of l)) i) 
 
 -- ---- (a), (b) and (c), one after the other
 
-module _ (m : List ℕ) {l : List ℕ} (w : Works l) (o : (table_of l).own ≤ 8) {l1 : List ℕ}
+module _ (m : List ℕ) {l : List ℕ} (w : Owns l) {l1 : List ℕ}
     (a : Is l1 (step_a (message_of m) (table_of l))) where
   abbrev p : Push
   p = message_of m
@@ -124,10 +123,13 @@ module _ (m : List ℕ) {l : List ℕ} (w : Works l) (o : (table_of l).own ≤ 8
 
   owned_clocks : Owned with_clocks
   unfolding step_a
-  owned_clocks = (w.housed, o)
+  owned_clocks = (w.works.housed, w.own)
 
   pub clocks_owned : (table_of l1).own ≤ 8
   clocks_owned = subst (λ (u : Table). u.own ≤ 8) (sym a.table) owned_clocks.1
+
+  pub clocks_owns : Works l1 → Owns l1
+  clocks_owns k = record { works = k; own = clocks_owned }
 
   module _ {r : Bool} {l2 : List ℕ} (b : Made r l2 (step_b (message_of m).above (table_of l1))) where
     after : Made r l2 (step_b (message_of m).above with_clocks)
@@ -149,6 +151,9 @@ module _ (m : List ℕ) {l : List ℕ} (w : Works l) (o : (table_of l).own ≤ 8
 
       pub above_owned : (table_of l2).own ≤ 8
       above_owned = subst (λ (u : Table). u.own ≤ 8) (sym (there.bytes refl).table) owned.1
+
+      pub above_owns : Owns l2
+      above_owns = record { works = above_works; own = above_owned }
 
       pub above_then : {s : Bool} {l3 : List ℕ} → Made s l3 (step_c (message_of m).first (table_of l2)) →
           Made s l3 (taken (message_of m) (table_of l))

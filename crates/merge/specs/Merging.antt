@@ -35,7 +35,7 @@ use Rattle.steps.specs.Standing.{sound_stands}
 use Rattle.steps.specs.Room.{Room, sound_room}
 use Rattle.steps.specs.Grown.{Grown}
 use Rattle.steps.specs.States.{Held, Made, many_all, Housed, made_past}
-use Rattle.merge.specs.Working.{Works, AllHeld, made_works, made_full, made_is, made_as}
+use Rattle.merge.specs.Working.{Works, Owns, AllHeld, made_works, made_full, made_is, made_as}
 use Rattle.merge.specs.Message.{Sized, heads_in, entries_in}
 use Rattle.merge.specs.Keeping.{stepped, past_mends, grown_stepped}
 use Rattle.merge.specs.Live.{base_housed}
@@ -156,6 +156,9 @@ module _ {old l m : List ℕ} {now : ℕ} (k : Merges old l m now) (bytes : Byte
 
   pub merge_own : (table_of l).own ≤ 8
   merge_own = subst (λ (u : Table). u.own ≤ 8) (sym same) own_node.1
+
+  pub merge_owns : Owns l
+  merge_owns = record { works = merge_works; own = merge_own }
 
   pub merge_sized : Sized m
   unfolding read_push

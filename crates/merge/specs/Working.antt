@@ -25,6 +25,11 @@ pub record Works (l : List ℕ) : Type 0 where
   pub room : Room (table_of l)
   pub housed : Housed (table_of l)
 
+-- and its own node is one of 8
+pub record Owns (l : List ℕ) : Type 0 where
+  pub works : Works l
+  pub own : (table_of l).own ≤ 8
+
 -- ---- what the outcome of a step says
 
 pub made_room : {l : List ℕ} {u : Table} → Made true l u → Room u

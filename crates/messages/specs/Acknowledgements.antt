@@ -59,10 +59,10 @@ ack_range n l o = cc (marked_chunk l o 16 ack_mark (omega arith), zero_chunk l o
 -- the stores of the code, one behind the other
 pub ack_stores : (l : List ℕ) (o : ℕ) (a : Acknowledgement) → o + 16 ≤ length l →
     splice (splice (splice (splice l o (65 ∷ 75 ∷ a.sender ∷ a.addressee ∷ [])) (o + 4) (u32 a.version)) (o + 8) (u32 a.id))
-    (o + 12) (u32 0)
+    (o + 12) (zeros 4)
     ≡ splice l o (ack_bytes a)
 unfolding ack_bytes bytes_of
-ack_stores l o a f = rw add-zero at (splices_splice l o 0 ((65 ∷ 75 ∷ a.sender ∷ a.addressee ∷ []) ∷ u32 a.version ∷ u32 a.id ∷ u32 0 ∷ []) (omega arith))
+ack_stores l o a f = rw add-zero at (splices_splice l o 0 ((65 ∷ 75 ∷ a.sender ∷ a.addressee ∷ []) ∷ u32 a.version ∷ u32 a.id ∷ zeros 4 ∷ []) (omega arith))
 
 -- ---- read back
 

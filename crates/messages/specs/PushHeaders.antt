@@ -63,10 +63,10 @@ push_range n l o = cc (marked_chunk l o 16 push_mark (omega arith), zero_chunk l
 -- the stores of the code, one behind the other
 pub push_stores : (l : List ℕ) (o : ℕ) (p : PushHeader) → o + 16 ≤ length l →
     splice (splice (splice (splice l o (80 ∷ 85 ∷ p.sender ∷ p.addressee ∷ [])) (o + 4) (u32 p.version))
-    (o + 8) (p.heads ∷ p.entries ∷ 0 ∷ 0 ∷ [])) (o + 12) (u32 0)
+    (o + 8) (p.heads ∷ p.entries ∷ 0 ∷ 0 ∷ [])) (o + 12) (zeros 4)
     ≡ splice l o (push_bytes p)
 unfolding push_bytes bytes_of
-push_stores l o p f = rw add-zero at (splices_splice l o 0 ((80 ∷ 85 ∷ p.sender ∷ p.addressee ∷ []) ∷ u32 p.version ∷ (p.heads ∷ p.entries ∷ 0 ∷ 0 ∷ []) ∷ u32 0 ∷ []) (omega arith))
+push_stores l o p f = rw add-zero at (splices_splice l o 0 ((80 ∷ 85 ∷ p.sender ∷ p.addressee ∷ []) ∷ u32 p.version ∷ (p.heads ∷ p.entries ∷ 0 ∷ 0 ∷ []) ∷ zeros 4 ∷ []) (omega arith))
 
 -- ---- read back
 

@@ -1,11 +1,13 @@
 // The acknowledgement: who received which version of which file, and from whom.
-ghost use Rattle.std.specs.Prelude.{◌≡◌, ◌+◌, ◌≤◌, length};
-ghost use Rattle.codec.specs.Bytes.{chunk, splice};
-ghost use Rattle.messages.specs.Acknowledgements.{ack_at, ack_bytes, ack_fits, ack_in_range};
+ghost use Rattle.std.specs.Prelude.{⊤};
+ghost use Rattle.std.proofs.Common.{rules};
+ghost use Rattle.codec.specs.Laws.{of_chunk};
+ghost use Rattle.messages.specs.Acknowledgements.{ack_of, ack_at, ack_bytes, ack_mark, ack_fits, ack_in_range, length_ack_bytes, ack_range};
 
+use codec::{Record, Stored};
 use numbers::{ids, nodes};
 
-#[derive(Clone, Copy)]
+#[derive(Clone, Copy, PartialEq, Eq)]
 pub struct Acknowledgement {
     pub sender: u8,
     pub addressee: u8,
@@ -13,68 +15,69 @@ pub struct Acknowledgement {
     pub id: u32,
 }
 
-impl Acknowledgement {
-    pub const SIZE: usize = 16;
+impl Stored for Acknowledgement {
+    const SIZE: usize = 16;
 
-    pub const MARK: [u8; 2] = [0x41, 0x4B];
+    ghost SIZE = { 16 };
 
-    // The acknowledgement that stands at o.
-    pub fn read(t: &[u8], o: usize) -> Self
-        requires { o + 16 ≤ length t.now }
-        ensures { result ≡ ack_at t.now o }
-    {
-        let sender = codec::get_u8(t, o + 2);
-        let addressee = codec::get_u8(t, o + 3);
-        let version = codec::get_u32(t, o + 4);
-        let id = codec::get_u32(t, o + 8);
-        Self {
-            sender,
-            addressee,
-            version,
-            id,
+    ghost at = { ack_at };
+
+    ghost bytes = { ack_bytes };
+
+    #[tactic(auto, using(crate::specs::Acknowledgements::ack_fields))]
+    fn read(t: &[u8], o: usize) -> Acknowledgement {
+        Acknowledgement {
+            sender: u8::read(t, o + 2),
+            addressee: u8::read(t, o + 3),
+            version: u32::read(t, o + 4),
+            id: u32::read(t, o + 8),
         }
     }
 
-    // Writes the acknowledgement at o.
-    pub fn write(self, t: &mut [u8], o: usize)
-        requires { o + 16 ≤ length t.old }
-        ensures { t.new ≡ splice t.old o (ack_bytes self) }
-    {
-        let first = Acknowledgement::MARK[0];
-        let second = Acknowledgement::MARK[1];
-        codec::put_four(t, o, first, second, self.sender, self.addressee);
-        codec::put_u32(t, o + 4, self.version);
-        codec::put_u32(t, o + 8, self.id);
-        codec::put_u32(t, o + 12, 0);
+    #[tactic(auto, using(crate::specs::Acknowledgements::ack_stores))]
+    fn write(self, t: &mut [u8], o: usize) {
+        let [first, second] = Acknowledgement::MARK;
+        codec::put_bytes(t, o, [first, second, self.sender, self.addressee]);
+        self.version.write(t, o + 4);
+        self.id.write(t, o + 8);
+        codec::put_bytes(t, o + 12, [0; 4]);
     }
 
-    // Whether the sixteen bytes from o on are an acknowledgement in its range.
-    pub fn in_range(t: &[u8], o: usize, n: u8) -> bool
-        requires { o + 16 ≤ length t.now }
-        ensures { result ≡ ack_in_range n (chunk t.now o 16) }
-    {
-        if !codec::is_marked(t, o, Acknowledgement::MARK) {
-            return false;
-        }
-        if !codec::is_zero(t, o + 12, 4) {
-            return false;
-        }
-        Acknowledgement::read(t, o).fits(n)
+    ghost sized = { length_ack_bytes };
+
+    ghost within = { of_chunk ack_of 16 };
+}
+
+impl Record for Acknowledgement {
+    const MARK: [u8; 2] = [0x41, 0x4B];
+
+    ghost MARK = { ack_mark };
+
+    const ZEROS_AT: usize = 12;
+
+    ghost ZEROS_AT = { 12 };
+
+    const ZEROS: usize = 4;
+
+    ghost ZEROS = { 4 };
+
+    type Nodes = u8;
+
+    ghost can_judge = { λ _. ⊤ };
+
+    ghost fits = { ack_fits };
+
+    ghost in_range = { ack_in_range };
+
+    #[tactic(auto, unfolding(crate::specs::Acknowledgements::ack_fits))]
+    fn fits(self, n: u8) -> bool {
+        nodes::is_node(n, u64::from(self.sender))
+            && nodes::is_node(n, u64::from(self.addressee))
+            && ids::is_version(self.version)
+            && ids::is_id(n, self.id)
     }
 
-    // Whether every field is in its range.
-    fn fits(self, n: u8) -> bool
-        ensures { result ≡ ack_fits n self }
-    {
-        if !nodes::is_node(n, self.sender as u64) {
-            return false;
-        }
-        if !nodes::is_node(n, self.addressee as u64) {
-            return false;
-        }
-        if !ids::is_version(self.version) {
-            return false;
-        }
-        ids::is_id(n, self.id)
-    }
+    ghost inside = { Prim.search rules };
+
+    ghost range = { ack_range };
 }

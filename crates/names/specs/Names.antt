@@ -1,12 +1,13 @@
 -- Names: their bytes, when one is a name, and when two are the same. What the contracts of `names` cite.
 -- Assumes nothing.
 use Rattle.std.specs.Prelude.{◌≡◌, refl, ℕ, ◌+◌, ◌-◌, ◌<◌, ◌≤◌, Bool, true, false, ◌&&◌, not, cond, List, ◌∷◌, ◌++◌, length, get_or, take, drop, eqb, leb}
+use lib.Pointwise.{pointwise}
 use Rattle.std.proofs.Common.{ap, sym, ◌∙◌, arith, append-nil, zero-add, length-drop, take_all, eqb-true, eq-eqb, le-leb}
 use Rattle.std.proofs.Math.Seq.{drop-length, take-append_seam, drop-append_seam}
 use Rattle.std.proofs.lemmas.Bool.{lt-leb}
 use Rattle.codec.specs.Bytes.{chunk, splice, u8_at, u8, zeros, all_are, same_bytes}
 use Rattle.codec.specs.Lists.{every, and_true, and_right}
-use Rattle.codec.specs.Laws.{reads, same_eq, same_refl, splice_splice, written_out, length_chunk, get_or_chunk, chunk_chunk, u8_back, chunk_add, all_zeros, drop_zeros}
+use Rattle.codec.specs.Laws.{same_pointwise, reads, same_eq, same_refl, splice_splice, written_out, length_chunk, get_or_chunk, chunk_chunk, u8_back, chunk_add, all_zeros, drop_zeros}
 use Rattle.names.specs.declared.Name.{Name}
 
 -- "Name: one length byte, then fifteen bytes": the name that stands at o, and the sixteen bytes of a name
@@ -44,6 +45,11 @@ same_name a b = eqb a.len b.len && same_bytes a.bytes b.bytes
 pub name_ext : {a b : Name} → a.len ≡ b.len → a.bytes ≡ b.bytes → a ≡ b
 name_ext p q = λ i. record { len = p i; bytes = q i }
 
+-- the comparison that the type derives, and this one
+pub same_derived : (a b : Name) → (eqb a.len b.len && pointwise eqb a.bytes b.bytes) ≡ same_name a b
+unfolding same_name
+same_derived a b = ap (λ (s : Bool). eqb a.len b.len && s) (same_pointwise a.bytes b.bytes)
+
 -- names that are found the same are equal, and the other way round
 pub same_name_eq : (a b : Name) → same_name a b ≡ true → a ≡ b
 unfolding same_name
@@ -54,6 +60,10 @@ same_name_eq a b h =
 pub same_name_refl : (a : Name) → same_name a a ≡ true
 unfolding same_name
 same_name_refl a = simp (eq-eqb a.len a.len refl, same_refl a.bytes)
+
+-- a name's bytes are sixteen
+pub length_name_bytes : (n : Name) → length (name_bytes n) ≡ 16
+length_name_bytes n = refl
 
 -- a text copied over fifteen zeros is followed by zeros
 pub from_short : (s : List ℕ) → length s ≤ 15 → record { len = length s; bytes = splice (zeros 15) 0 s } ≡ name_from s

@@ -2,11 +2,12 @@
 // heads and entries; what a caller gives is a slice of any length, and becomes a name that is judged.
 #![tactic(auto)]
 
-ghost use Rattle.std.specs.Prelude.{◌≡◌, ◌+◌, ◌≤◌, length};
-ghost use Rattle.codec.specs.Bytes.{splice};
-ghost use Rattle.names.specs.Names.{name_at, name_bytes, no_name, name_from, same_name, clean, is_text, is_name};
+ghost use Rattle.std.specs.Prelude.{◌≡◌, true, false, MatchOption};
+ghost use Rattle.names.specs.Names.{name_at, name_bytes, no_name, name_from, clean, is_text, is_name, length_name_bytes, name_chunk};
 
-#[derive(Clone, Copy)]
+use codec::Stored;
+
+#[derive(Clone, Copy, PartialEq, Eq)]
 pub struct Name {
     pub len: u8,
     pub bytes: [u8; 15],
@@ -16,56 +17,27 @@ pub struct Name {
 fn is_clean(s: &[u8]) -> bool
     ensures { result ≡ clean s.now }
 {
-    let mut i = 0;
-    while i < s.len() {
-        if s[i] == 0 {
-            return false;
-        }
-        if s[i] == 47 {
-            return false;
-        }
-        i += 1;
-    }
-    true
+    s.iter().all(|b| *b != 0 && *b != b'/')
 }
 
 // Whether s may be the text of a name.
+#[tactic(auto, unfolding(crate::specs::Names::is_text))]
 fn is_text(s: &[u8]) -> bool
     ensures { result ≡ is_text s.now }
 {
-    if s.len() < 1 {
-        return false;
+    match s.len() {
+        1 | 2 => is_clean(s) && !codec::all_are(s, b'.'),
+        3..=15 => is_clean(s),
+        _ => false,
     }
-    if 15 < s.len() {
-        return false;
-    }
-    if !is_clean(s) {
-        return false;
-    }
-    if 2 < s.len() {
-        return true;
-    }
-    !codec::all_are(s, 46)
 }
 
-impl Name {
-    // The bytes of a name in a record: the length and the fifteen.
-    pub const SIZE: usize = 16;
+// The name whose text is s, which `is_name` then judges; what is too long becomes no name.
+impl From<&[u8]> for Name {
+    ghost from_gives = { λ s n. n ≡ name_from s.now };
 
-    // No name: sixteen zeros, as the root has them.
-    pub fn none() -> Self
-        ensures { result ≡ no_name }
-    {
-        Self {
-            len: 0,
-            bytes: [0u8; 15],
-        }
-    }
-
-    // The name whose text is s, which `is_name` then judges; what is too long becomes no name.
-    pub fn from(s: &[u8]) -> Self
-        ensures { result ≡ name_from s.now }
-    {
+    #[tactic(auto, using(crate::specs::Names::from_short, crate::specs::Names::from_long))]
+    fn from(s: &[u8]) -> Self {
         if 15 < s.len() {
             return Name::none();
         }
@@ -76,51 +48,67 @@ impl Name {
             bytes,
         }
     }
+}
 
-    // The name that stands at o.
-    pub fn read(t: &[u8], o: usize) -> Self
-        requires { o + 16 ≤ length t.now }
-        ensures { result ≡ name_at t.now o }
-    {
-        let mut bytes = [0u8; 15];
-        codec::replace(&mut bytes, 0, codec::part(t, o + 1, 15));
-        Name { len: t[o], bytes }
-    }
+// The bytes of a name in a record: the length and the fifteen.
+impl Stored for Name {
+    const SIZE: usize = 16;
 
-    // Writes the name at o.
-    pub fn write(self, t: &mut [u8], o: usize)
-        requires { o + 16 ≤ length t.old }
-        ensures { t.new ≡ splice t.old o (name_bytes self) }
-    {
-        let bytes = self.bytes;
-        codec::put_u8(t, o, self.len);
-        codec::replace(t, o + 1, &bytes);
-    }
+    ghost SIZE = { 16 };
 
-    // Whether two names are the same.
-    pub fn same(self, other: Name) -> bool
-        ensures { result ≡ same_name self other }
-    {
-        if self.len != other.len {
-            return false;
+    ghost at = { name_at };
+
+    ghost bytes = { name_bytes };
+
+    ghost sized = { length_name_bytes };
+
+    ghost within = { name_chunk };
+
+    fn read(t: &[u8], o: usize) -> Self {
+        Name {
+            len: t[o],
+            bytes: codec::get_bytes(t, o + 1),
         }
-        let mine = self.bytes;
-        let theirs = other.bytes;
-        codec::same_bytes(&mine, &theirs)
+    }
+
+    #[tactic(auto, using(crate::specs::Names::name_put))]
+    fn write(self, t: &mut [u8], o: usize) {
+        self.len.write(t, o);
+        codec::put_bytes(t, o + 1, self.bytes);
+    }
+}
+
+impl Name {
+    // No name: sixteen zeros, as the root has them.
+    pub fn none() -> Self
+        ensures { result ≡ no_name }
+    {
+        Name {
+            len: 0,
+            bytes: [0; 15],
+        }
     }
 
     // Whether this is a name.
+    #[tactic(auto, unfolding(crate::specs::Names::is_name))]
     pub fn is_name(self) -> bool
         ensures { result ≡ is_name self }
     {
-        let bytes = self.bytes;
-        let len = self.len as usize;
-        if 15 < len {
+        let Some((text, unused)) = self.bytes.split_at_checked(usize::from(self.len)) else {
             return false;
+        };
+        is_text(text) && codec::all_are(unused, 0)
+    }
+
+    // The name whose text is s, if a name may have that text.
+    pub fn parse(s: &[u8]) -> Option<Name>
+        ensures { MatchOption result (is_name (name_from s.now) ≡ false)
+            (λ n. (n ≡ name_from s.now) × (is_name n ≡ true)) }
+    {
+        let name = Name::from(s);
+        if !name.is_name() {
+            return None;
         }
-        if !is_text(codec::part(&bytes, 0, len)) {
-            return false;
-        }
-        codec::all_are(codec::part(&bytes, len, 15 - len), 0)
+        Some(name)
     }
 }

@@ -8,10 +8,12 @@ use Rattle.std.proofs.Math.Decide.{dec_lt}
 use Rattle.std.proofs.Math.Pow.{pow-lt, high, ones_split, ones_lt}
 use Rattle.std.proofs.lemmas.Nat.{or_shr, or_lt, xor_shr}
 use Rattle.std.specs.Int.Bits.{or_step, bit_xor, xor_step, differ}
+use Rattle.std.specs.Int.RustNames.{count_ones}
+use lib.Count.{ones_step}
 use Rattle.codec.specs.Lists.{and_true}
 use Rattle.numbers.specs.Clocks.{new_clock}
 use Rattle.numbers.specs.Ids.{id_of, maker, count, stamp_of, clock_of, issuer, is_made, is_id}
-use Rattle.numbers.specs.Nodes.{has, single, all, join, without, is_set, is_size, is_node}
+use Rattle.numbers.specs.Nodes.{has, single, all, join, without, is_set, is_size, is_node, members}
 
 -- ---- "Node: 1 to N, N at most 8."
 
@@ -90,6 +92,21 @@ has_within k s i h e = go (dec_lt k i)
 
 pub size_bits : (a b c d e f g h : ℕ) → a + (b + (c + (d + (e + (f + (g + h)))))) ≡ a + (b + (c + (d + (e + (f + (g + (h + 0)))))))
 size_bits a b c d e f g h = omega arith
+
+-- std's count of the bits that are set, and this one
+pub ones_members : (n s : ℕ) → s < 2 ^ n → count_ones s ≡ members n s
+unfolding members count_ones
+ones_members zero s h = ap count_ones {x = s} {y = 0} (omega arith)
+ones_members (suc n) s h =
+    ones_step s ∙ ap (λ (k : ℕ). s % 2 + k) (ones_members n (s / 2) (omega (arith, rw pow-suc at h)))
+
+-- a byte has no other nodes than 1 to 8
+pub has_outside : (s i : ℕ) → s < 256 → (1 ≤ i → i ≤ 8 → ⊥) → has s i ≡ false
+has_outside s i h o = go (dec_lt i 1)
+  where
+    go : Dec (i < 1) → has s i ≡ false
+    go (yes l) = sym (has_none s i l)
+    go (no g) = sym (has_above 8 s i h (omega (arith, o)))
 
 -- ---- which nodes are in a set
 

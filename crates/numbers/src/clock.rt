@@ -1,14 +1,14 @@
 // The clock of a table by value. A tick hands back the advanced clock and the stamp that it gives;
 // that a clock is past its end is seen afterwards, so a tick has room above 2^40-1.
-ghost use Rattle.std.specs.Prelude.{◌≡◌, ◌≤◌, ◌<◌, ◌^◌};
-ghost use Rattle.numbers.specs.Clocks.{ticked, ticked_at};
+ghost use Rattle.std.specs.Prelude.{◌≡◌, ◌<◌, ◌^◌};
+ghost use Rattle.numbers.specs.Clocks.{ticked};
 
-#[derive(Clone, Copy)]
+#[derive(Clone, Copy, PartialEq, Eq)]
 pub struct Clock {
     pub highest: u64,
 }
 
-#[derive(Clone, Copy)]
+#[derive(Clone, Copy, PartialEq, Eq)]
 pub struct Ticked {
     pub clock: Clock,
     pub stamp: u64,
@@ -20,21 +20,10 @@ impl Clock {
         requires { (self.highest < 2 ^ 48) × (now < 2 ^ 48) }
         ensures { result ≡ ticked self now node }
     {
-        let next = self.highest + 1;
-        if now < next {
-            return Clock::at(next, node);
-        }
-        Clock::at(now, node)
-    }
-
-    // The clock at a reading, and the node's stamp with it.
-    fn at(reading: u64, node: u8) -> Ticked
-        requires { reading ≤ 2 ^ 48 }
-        ensures { result ≡ ticked_at reading node }
-    {
+        let highest = now.max(self.highest + 1);
         Ticked {
-            clock: Clock { highest: reading },
-            stamp: reading * 256 + node as u64,
+            clock: Clock { highest },
+            stamp: highest * 256 + u64::from(node),
         }
     }
 }

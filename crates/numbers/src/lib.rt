@@ -16,8 +16,5 @@ pub use clock::{Clock, Ticked};
 pub fn is_within(low: u64, x: u64, high: u64) -> bool
     ensures { result ≡ is_within low x high }
 {
-    if x < low {
-        return false;
-    }
-    x <= high
+    (low..=high).contains(&x)
 }

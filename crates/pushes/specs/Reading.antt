@@ -8,7 +8,7 @@ use Rattle.std.proofs.Math.Option.{some, none}
 use Prim.Native.Nat.{ℕ, zero, suc, ◌+◌, ◌*◌, ◌-◌, ◌≤◌, ◌<◌, max}
 use native.Mathlib.Omega.{arith}
 use Rattle.codec.specs.Bytes.{chunk, marked_at, zero_at}
-use Rattle.codec.specs.Lists.{and_true, both_ways, and_both}
+use Rattle.codec.specs.Lists.{and_stop, and_true, both_ways, and_both}
 use Rattle.numbers.specs.Nodes.{has, is_node, is_within}
 use Rattle.numbers.specs.Ids.{is_version}
 use Rattle.records.specs.declared.head.Head.{Head}
@@ -414,6 +414,10 @@ order_by n l h =
 
 pub push_tests : (n : ℕ) (l : List ℕ) (h : PushHeader) → h ≡ push_at l 0 → order_by n l h ≡ is_push n l
 push_tests n l h e = ap (order_by n l) e ∙ in_order_law n l
+
+-- what has no fine header is no push
+pub no_header : (n : ℕ) (l : List ℕ) → header_fine n l ≡ false → is_push n l ≡ false
+no_header n l e = sym (push_tests n l (push_at l 0) refl) ∙ sym (and_stop (header_fine n l) _ e)
 
 pub sized_by : (n : ℕ) (l : List ℕ) (h : PushHeader) → h ≡ push_at l 0 → header_fine n l ≡ true →
     (1 ≤ h.heads) × (h.heads ≤ 16) × (h.entries ≤ 32) × (length l ≡ 16 + 40 * h.heads + 32 * h.entries)

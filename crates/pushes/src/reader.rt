@@ -1,10 +1,9 @@
 // A reader over a message: the slice, and the position of the next record in it. Records are read in
 // order: each is the bytes at the position, and the reader then stands behind them.
-//
-// A function that holds a `Reader` is proved by a walk of its code, by hand, so there are few, and
-// they are thin; whoever has the slice and a position alone calls `bytes_at`.
 ghost use Rattle.std.specs.Prelude.{◌≡◌, ◌+◌, ◌≤◌, length};
 ghost use Rattle.codec.specs.Bytes.{chunk};
+
+use codec::Stored;
 
 #[derive(Clone, Copy)]
 pub struct Reader<'a> {
@@ -31,4 +30,13 @@ pub fn bytes_at(src: &[u8], at: usize, n: usize) -> &[u8]
 {
     let mut r = Reader { src, at };
     next(&mut r, n)
+}
+
+// The record that stands at a position.
+#[tactic(auto, using(codec::specs::Laws::length_chunk))]
+pub fn record_at<R: Stored>(src: &[u8], at: usize) -> R
+    requires { at + R.SIZE ≤ length src.now }
+    ensures { result ≡ R.at src.now at }
+{
+    R::read(bytes_at(src, at, R::SIZE), 0)
 }

@@ -1,13 +1,16 @@
 // Entries: what a directory says of a child.
-ghost use Rattle.std.specs.Prelude.{◌≡◌, ◌+◌, ◌≤◌, length};
-ghost use Rattle.codec.specs.Bytes.{chunk, splice};
-ghost use Rattle.records.specs.Entries.{entry_at, entry_bytes, entry_fits, entry_in_range};
+ghost use Rattle.std.specs.Prelude.{◌≡◌, eqb, ⊤};
+ghost use Rattle.std.proofs.Common.{rules};
+ghost use Rattle.codec.specs.Laws.{of_chunk};
+ghost use Rattle.records.specs.Entries.{entry_of, entry_at, entry_bytes, entry_fits, entry_in_range, entry_mark, length_entry_bytes, entry_range_law};
 
+use codec::{Record, Stored};
 use names::Name;
 use numbers::ids;
 
-#[derive(Clone, Copy)]
+#[derive(Clone, Copy, PartialEq, Eq)]
 pub struct Entry {
+    // Live is the byte that stood there, any byte: the clause of `Entry::read` holds of every byte string.
     pub live: u8,
     pub child: u32,
     pub stamp: u64,
@@ -15,67 +18,77 @@ pub struct Entry {
 }
 
 impl Entry {
-    pub const SIZE: usize = 32;
-
-    pub const MARK: [u8; 2] = [0x45, 0x4E];
-
-    // The entry that stands at o.
-    pub fn read(t: &[u8], o: usize) -> Self
-        requires { o + 32 ≤ length t.now }
-        ensures { result ≡ entry_at t.now o }
+    // Whether it is live, and not struck out.
+    pub fn is_live(self) -> bool
+        ensures { result ≡ eqb self.live 1 }
     {
-        let live = codec::get_u8(t, o + 2);
-        let child = codec::get_u32(t, o + 4);
-        let stamp = codec::get_u64(t, o + 8);
-        let name = Name::read(t, o + 16);
-        Self {
-            live,
-            child,
-            stamp,
-            name,
+        self.live == 1
+    }
+}
+
+impl Stored for Entry {
+    const SIZE: usize = 32;
+
+    ghost SIZE = { 32 };
+
+    ghost at = { entry_at };
+
+    ghost bytes = { entry_bytes };
+
+    #[tactic(auto, using(crate::specs::Entries::entry_fields))]
+    fn read(t: &[u8], o: usize) -> Entry {
+        Entry {
+            live: u8::read(t, o + 2),
+            child: u32::read(t, o + 4),
+            stamp: u64::read(t, o + 8),
+            name: Name::read(t, o + 16),
         }
     }
 
-    // Writes the entry at o.
-    pub fn write(self, t: &mut [u8], o: usize)
-        requires { o + 32 ≤ length t.old }
-        ensures { t.new ≡ splice t.old o (entry_bytes self) }
-    {
-        let name = self.name;
-        codec::put_four(t, o, Entry::MARK[0], Entry::MARK[1], self.live, 0);
-        codec::put_u32(t, o + 4, self.child);
-        codec::put_u64(t, o + 8, self.stamp);
-        name.write(t, o + 16);
+    #[tactic(auto, using(crate::specs::Entries::entry_stores))]
+    fn write(self, t: &mut [u8], o: usize) {
+        let [first, second] = Entry::MARK;
+        codec::put_bytes(t, o, [first, second, self.live, 0]);
+        self.child.write(t, o + 4);
+        self.stamp.write(t, o + 8);
+        self.name.write(t, o + 16);
     }
 
-    // Whether the thirty-two bytes from o on are an entry in its range.
-    pub fn in_range(t: &[u8], o: usize, n: u8) -> bool
-        requires { o + 32 ≤ length t.now }
-        ensures { result ≡ entry_in_range n (chunk t.now o 32) }
-    {
-        if !codec::is_marked(t, o, Entry::MARK) {
-            return false;
-        }
-        if !codec::is_zero(t, o + 3, 1) {
-            return false;
-        }
-        Entry::read(t, o).fits(n)
+    ghost sized = { length_entry_bytes };
+
+    ghost within = { of_chunk entry_of 32 };
+}
+
+impl Record for Entry {
+    const MARK: [u8; 2] = [0x45, 0x4E];
+
+    ghost MARK = { entry_mark };
+
+    const ZEROS_AT: usize = 3;
+
+    ghost ZEROS_AT = { 3 };
+
+    const ZEROS: usize = 1;
+
+    ghost ZEROS = { 1 };
+
+    type Nodes = u8;
+
+    ghost can_judge = { λ _. ⊤ };
+
+    ghost fits = { entry_fits };
+
+    ghost in_range = { entry_in_range };
+
+    #[tactic(auto, unfolding(crate::specs::Entries::entry_fits))]
+    fn fits(self, n: u8) -> bool {
+        self.live <= 1
+            && ids::is_id(n, self.child)
+            && ids::is_stamp(n, self.stamp)
+            && self.name.is_name()
     }
 
-    // Whether every field is in its range.
-    fn fits(self, n: u8) -> bool
-        ensures { result ≡ entry_fits n self }
-    {
-        if 1 < self.live {
-            return false;
-        }
-        if !ids::is_id(n, self.child) {
-            return false;
-        }
-        if !ids::is_stamp(n, self.stamp) {
-            return false;
-        }
-        let name = self.name;
-        name.is_name()
-    }
+    ghost inside = { Prim.search rules };
+
+    ghost range = { entry_range_law };
 }

@@ -1,13 +1,16 @@
 // Heads: what a replica is, without what its table alone knows of it.
-ghost use Rattle.std.specs.Prelude.{◌≡◌, ◌+◌, ◌≤◌, length};
-ghost use Rattle.codec.specs.Bytes.{chunk, splice};
-ghost use Rattle.records.specs.Heads.{head_at, head_bytes, root_head, is_root, is_ordinary, head_fits, head_in_range};
+ghost use Rattle.std.specs.Prelude.{◌≡◌, ◌≤◌, eqb};
+ghost use Rattle.std.proofs.Common.{rules};
+ghost use Rattle.codec.specs.Laws.{of_chunk};
+ghost use Rattle.records.specs.Heads.{head_of, head_at, head_bytes, head_mark, root_head, is_root, head_fits, head_in_range, length_head_bytes, head_range_law};
 
+use codec::{Record, Stored};
 use names::Name;
 use numbers::{ids, nodes};
 
-#[derive(Clone, Copy)]
+#[derive(Clone, Copy, PartialEq, Eq)]
 pub struct Head {
+    // Kind and live are the bytes that stood there, any byte: the clause of `Head::read` holds of every byte string.
     pub kind: u8,
     pub live: u8,
     pub id: u32,
@@ -19,91 +22,35 @@ pub struct Head {
 }
 
 impl Head {
-    pub const SIZE: usize = 40;
-
-    pub const MARK: [u8; 2] = [0x48, 0x44];
-
     // The root's head in a cluster of n nodes.
-    pub fn root(n: u8) -> Self
+    pub fn root(n: u8) -> Head
         requires { n ≤ 8 }
         ensures { result ≡ root_head n }
     {
-        let holders = nodes::all(n);
-        let name = Name::none();
-        Self {
+        Head {
             kind: 2,
             live: 1,
             id: 0,
             stamp: 0,
-            holders,
+            holders: nodes::all(n),
             depth: 0,
             directory: 0,
-            name,
+            name: Name::none(),
         }
     }
 
-    // The head that stands at o.
-    pub fn read(t: &[u8], o: usize) -> Self
-        requires { o + 40 ≤ length t.now }
-        ensures { result ≡ head_at t.now o }
+    // Whether it is live, and not dead.
+    pub fn is_live(self) -> bool
+        ensures { result ≡ eqb self.live 1 }
     {
-        let kind = codec::get_u8(t, o + 2);
-        let live = codec::get_u8(t, o + 3);
-        let id = codec::get_u32(t, o + 4);
-        let stamp = codec::get_u64(t, o + 8);
-        let holders = codec::get_u8(t, o + 16);
-        let depth = codec::get_u8(t, o + 17);
-        let directory = codec::get_u32(t, o + 20);
-        let name = Name::read(t, o + 24);
-        Self {
-            kind,
-            live,
-            id,
-            stamp,
-            holders,
-            depth,
-            directory,
-            name,
-        }
+        self.live == 1
     }
 
-    // Writes the head at o.
-    pub fn write(self, t: &mut [u8], o: usize)
-        requires { o + 40 ≤ length t.old }
-        ensures { t.new ≡ splice t.old o (head_bytes self) }
+    // Whether it is a directory's head, and not a file's.
+    pub fn is_directory(self) -> bool
+        ensures { result ≡ eqb self.kind 2 }
     {
-        let name = self.name;
-        codec::put_four(t, o, Head::MARK[0], Head::MARK[1], self.kind, self.live);
-        codec::put_u32(t, o + 4, self.id);
-        codec::put_u64(t, o + 8, self.stamp);
-        codec::put_four(t, o + 16, self.holders, self.depth, 0, 0);
-        codec::put_u32(t, o + 20, self.directory);
-        name.write(t, o + 24);
-    }
-
-    // Whether the forty bytes from o on are a head in its range.
-    pub fn in_range(t: &[u8], o: usize, n: u8) -> bool
-        requires { (o + 40 ≤ length t.now) × (n ≤ 8) }
-        ensures { result ≡ head_in_range n (chunk t.now o 40) }
-    {
-        if !codec::is_marked(t, o, Head::MARK) {
-            return false;
-        }
-        if !codec::is_zero(t, o + 18, 2) {
-            return false;
-        }
-        Head::read(t, o).fits(n)
-    }
-
-    // Whether every field is in its range.
-    fn fits(self, n: u8) -> bool
-        requires { n ≤ 8 }
-        ensures { result ≡ head_fits n self }
-    {
-        if self.id == 0 {
-            return self.is_root(n);
-        }
-        self.is_ordinary(n)
+        self.kind == 2
     }
 
     // Whether this is the root's head.
@@ -111,58 +58,87 @@ impl Head {
         requires { n ≤ 8 }
         ensures { result ≡ is_root n self }
     {
-        if self.kind != 2 {
-            return false;
+        self == Head::root(n)
+    }
+}
+
+impl Stored for Head {
+    const SIZE: usize = 40;
+
+    ghost SIZE = { 40 };
+
+    ghost at = { head_at };
+
+    ghost bytes = { head_bytes };
+
+    #[tactic(auto, using(crate::specs::Heads::head_fields))]
+    fn read(t: &[u8], o: usize) -> Head {
+        Head {
+            kind: u8::read(t, o + 2),
+            live: u8::read(t, o + 3),
+            id: u32::read(t, o + 4),
+            stamp: u64::read(t, o + 8),
+            holders: u8::read(t, o + 16),
+            depth: u8::read(t, o + 17),
+            directory: u32::read(t, o + 20),
+            name: Name::read(t, o + 24),
         }
-        if self.live != 1 {
-            return false;
-        }
-        if self.id != 0 {
-            return false;
-        }
-        if self.stamp != 0 {
-            return false;
-        }
-        if self.holders != nodes::all(n) {
-            return false;
-        }
-        if self.depth != 0 {
-            return false;
-        }
-        if self.directory != 0 {
-            return false;
-        }
-        let name = self.name;
-        name.same(Name::none())
     }
 
-    // Whether every field is in the range that it has in a head but the root's.
-    fn is_ordinary(self, n: u8) -> bool
-        requires { n ≤ 8 }
-        ensures { result ≡ is_ordinary n self }
-    {
-        if !numbers::is_within(1, self.kind as u64, 2) {
-            return false;
-        }
-        if 1 < self.live {
-            return false;
-        }
-        if !ids::is_made(n, self.id) {
-            return false;
-        }
-        if !ids::is_stamp(n, self.stamp) {
-            return false;
-        }
-        if !nodes::is_set(n, self.holders as u64) {
-            return false;
-        }
-        if !numbers::is_within(1, self.depth as u64, 16) {
-            return false;
-        }
-        if !ids::is_id(n, self.directory) {
-            return false;
-        }
-        let name = self.name;
-        name.is_name()
+    #[tactic(auto, using(crate::specs::Heads::head_stores))]
+    fn write(self, t: &mut [u8], o: usize) {
+        let [first, second] = Head::MARK;
+        codec::put_bytes(t, o, [first, second, self.kind, self.live]);
+        self.id.write(t, o + 4);
+        self.stamp.write(t, o + 8);
+        codec::put_bytes(t, o + 16, [self.holders, self.depth, 0, 0]);
+        self.directory.write(t, o + 20);
+        self.name.write(t, o + 24);
     }
+
+    ghost sized = { length_head_bytes };
+
+    ghost within = { of_chunk head_of 40 };
+}
+
+impl Record for Head {
+    const MARK: [u8; 2] = [0x48, 0x44];
+
+    ghost MARK = { head_mark };
+
+    const ZEROS_AT: usize = 18;
+
+    ghost ZEROS_AT = { 18 };
+
+    const ZEROS: usize = 2;
+
+    ghost ZEROS = { 2 };
+
+    type Nodes = u8;
+
+    ghost can_judge = { λ n. n ≤ 8 };
+
+    ghost fits = { head_fits };
+
+    ghost in_range = { head_in_range };
+
+    // The root's fields are given; in any other head each is in its range.
+    #[tactic(auto, unfolding(crate::specs::Heads::head_fits, crate::specs::Heads::is_ordinary))]
+    fn fits(self, n: u8) -> bool {
+        if self.id == 0 {
+            return self.is_root(n);
+        }
+        (1..=2).contains(&self.kind)
+            && self.live <= 1
+            && ids::is_made(n, self.id)
+            && ids::is_stamp(n, self.stamp)
+            && nodes::is_set(n, u64::from(self.holders))
+            && (1..=16).contains(&self.depth)
+            && ids::is_id(n, self.directory)
+            && self.name.is_name()
+    }
+
+    ghost inside = { Prim.search rules };
+
+    ghost range = { head_range_law };
 }

@@ -1,5 +1,7 @@
 pub mod Acknowledging
 pub mod Determined
+pub mod Judging
+pub mod Lending
 pub mod Listing
 pub mod Pending
 pub mod Promises

@@ -17,6 +17,7 @@ use Rattle.document.specs.Outcomes.{refused, done, judged}
 use Rattle.document.specs.Calls.{is_shown, listing, list_in}
 use Rattle.document.specs.Rows.{rows_written}
 use Rattle.changes.specs.Looking.{is_shown_in}
+use Rattle.table.specs.Slots.{count_slots}
 
 -- what slot s adds to the list
 unfoldable pub shown_at : List ℕ → ℕ → ℕ → List Entry
@@ -74,6 +75,31 @@ length_fewer l d i k h =
       ap length (shown_add l d i (k - i)),
       length-append (shown_in l d i) rest,
     )
+
+-- how many are shown is how many slots pass, and no more than there are
+shown_count : (l : List ℕ) (d s n : ℕ) →
+    count_slots (λ (i : ℕ). is_shown_in d (entry_in l i)) s n ≡ length (listing d (slots_from (entry_in l) s n))
+unfolding listing slots_from count_slots
+shown_count l d s zero = refl
+shown_count l d s (suc n) = go (is_shown_in d (entry_in l s)) _ _ (shown_count l d (suc s) n)
+  where
+    go : (b : Bool) (m : ℕ) (es : List Entry) → m ≡ length es →
+        cond b (suc m) m ≡ length (cond b ((entry_in l s).entry ∷ es) es)
+    go true m es e = ap suc e
+    go false m es e = e
+
+count_most : (f : ℕ → Bool) (s n : ℕ) → count_slots f s n ≤ n
+unfolding count_slots
+count_most f s zero = omega arith
+count_most f s (suc n) = go (f s) _ (count_most f (suc s) n)
+  where
+    go : (b : Bool) (m : ℕ) → m ≤ n → cond b (suc m) m ≤ suc n
+    go true m h = omega arith
+    go false m h = omega arith
+
+pub shown_most : (l : List ℕ) (d k : ℕ) {r : ℕ} → r ≡ count_slots (λ (i : ℕ). is_shown_in d (entry_in l i)) 0 k →
+    (r ≡ length (shown_in l d k)) × (r ≤ k)
+shown_most l d k e = (e ∙ shown_count l d 0 k, omega (arith, e, count_most (λ (i : ℕ). is_shown_in d (entry_in l i)) 0 k))
 
 -- a slot that is not shown, and one that is
 pub not_shown : (l : List ℕ) (d s : ℕ) → is_shown_in d (entry_in l s) ≡ false → shown_at l d s ≡ []

@@ -1,6 +1,6 @@
 -- Receive: the refusals, and what is done with the copy: its table, and the acknowledgement in the output.
 -- Assumes nothing.
-use Rattle.std.specs.Prelude.{◌≡◌, Bool, cond, ℕ, ◌≤◌, ◌<◌, ltb, length}
+use Rattle.std.specs.Prelude.{◌≡◌, Bool, cond, ℕ, ◌≤◌, ◌<◌, ltb, length, Err}
 use Rattle.std.proofs.Math.Path.{refl, ap, sym}
 use Rattle.std.proofs.Common.{subst, ◌∙◌, arith, lt-ltb, le-ltb}
 use Rattle.std.proofs.Math.Bool.{true, false, not}
@@ -18,7 +18,7 @@ use Rattle.document.specs.Sound.{sound_bytes}
 use Rattle.document.specs.Steps.{too_many, past_end}
 use Rattle.document.specs.Messages.{Push, read_push, message_of}
 use Rattle.document.specs.Receive.{received, odd, ack_for}
-use Rattle.document.specs.Outcomes.{Outcome, refused, done, judged, number_of, table_after, output_after, all_passed}
+use Rattle.document.specs.Outcomes.{Outcome, refused, done, judged, number_of, value_of, table_after, output_after, all_passed}
 use Rattle.document.specs.Calls.{when, is_now, if_push, take_in, receive_in, receive}
 use Rattle.document.specs.Reading.{own_at}
 use Rattle.pushes.specs.Judging.{is_push}
@@ -29,8 +29,9 @@ use Rattle.steps.specs.Grown.{Grown}
 use Rattle.steps.specs.States.{Made, made_past, made_within}
 use Rattle.merge.specs.Keeping.{stepped, received_stepped, many_stepped}
 use Rattle.merge.specs.Merging.{Merges}
-use Rattle.answers.specs.declared.Answer.{Answer}
-use Rattle.answers.specs.Answers.{answer_of, is_sound}
+use Rattle.answers.specs.declared.refusal.Refusal.{Refusal}
+use Rattle.answers.specs.Refusals.{code}
+use Rattle.answers.specs.Answers.{Answer, Answered, number, answers_refused, answers_instead, is_sound}
 use Rattle.changes.specs.Finishing.{Ends, ended, skip, stop}
 use Rattle.changes.specs.Killing.{not_now, is_now_law}
 
@@ -74,9 +75,17 @@ writing w (done v t x) = done v t w
 abbrev pub acked : ℕ → Table → Push → Outcome
 acked now t p = writing (ack_bytes (ack_for p)) (merged_in now t p)
 
-answer_writing : (w : List ℕ) (o : Outcome) → answer_of (writing w o) ≡ answer_of o
-answer_writing w (refused k) = refl
-answer_writing w (done v t x) = refl
+number_writing : (w : List ℕ) (o : Outcome) → number_of (writing w o) ≡ number_of o
+number_writing w (refused k) = refl
+number_writing w (done v t x) = refl
+
+value_writing : (w : List ℕ) (o : Outcome) → value_of (writing w o) ≡ value_of o
+value_writing w (refused k) = refl
+value_writing w (done v t x) = refl
+
+answer_writing : (w : List ℕ) (o : Outcome) (r : Answer) → Answered o r → Answered (writing w o) r
+answer_writing w o r q =
+    record { number = q.number ∙ sym (number_writing w o); value = q.value ∙ sym (value_writing w o) }
 
 table_writing : (w l : List ℕ) (o : Outcome) → table_after (writing w o) l ≡ table_after o l
 table_writing w l (refused k) = refl
@@ -114,35 +123,35 @@ module _ (now : ℕ) (t : Table) (p : Push) (out : List ℕ) where
 
 -- answer, table and output
 pub record Received (o : Outcome) (r : Answer) (l l' out out' : List ℕ) : Type 0 where
-  pub answer : r ≡ answer_of o
+  pub answer : Answered o r
   pub table : l' ≡ table_after o l
   pub output : out' ≡ output_after o out
 
-pub refuses_all : {o : Outcome} {k : ℕ} (l out : List ℕ) → o ≡ refused k → Received o (record { number = k; value = 0 }) l l out out
-refuses_all l out e =
+pub refuses_all : (r : Refusal) {o : Outcome} (l out : List ℕ) → o ≡ refused (code r) → Received o (Err r) l l out out
+refuses_all r l out e =
     record {
-      answer = ap answer_of (sym e);
+      answer = answers_refused r e;
       table = ap (λ (o : Outcome). table_after o l) (sym e);
       output = ap (λ (o : Outcome). output_after o out) (sym e);
     }
 
 module _ (now : ℕ) (t : Table) (p : Push) where
-  taken_refused : {r : Answer} (l out : List ℕ) {l' : List ℕ} → (r ≡ answer_of (merged_in now t p)) × (l' ≡ table_after (merged_in now t p) l) →
-      (r.number ≡ 0 → ⊥) → Received (acked now t p) r l l' out out
+  taken_refused : {r : Answer} (l out : List ℕ) {l' : List ℕ} → Answered (merged_in now t p) r × (l' ≡ table_after (merged_in now t p) l) →
+      (number r ≡ 0 → ⊥) → Received (acked now t p) r l l' out out
   taken_refused {r} l out q n =
       record {
-        answer = q.0 ∙ sym (answer_writing (ack_bytes (ack_for p)) (merged_in now t p));
+        answer = answer_writing (ack_bytes (ack_for p)) (merged_in now t p) r q.0;
         table = q.1 ∙ sym (table_writing (ack_bytes (ack_for p)) l (merged_in now t p));
-        output = sym (none_written now t p out (λ e. n (ap (λ (a : Answer). a.number) q.0 ∙ e)));
+        output = sym (none_written now t p out (λ e. n (q.0.number ∙ e)));
       }
 
-  taken_done : {r : Answer} (l out : List ℕ) {l' out' : List ℕ} → (r ≡ answer_of (merged_in now t p)) × (l' ≡ table_after (merged_in now t p) l) →
-      r.number ≡ 0 → out' ≡ splice out 0 (ack_bytes (ack_for p)) → Received (acked now t p) r l l' out out'
+  taken_done : {r : Answer} (l out : List ℕ) {l' out' : List ℕ} → Answered (merged_in now t p) r × (l' ≡ table_after (merged_in now t p) l) →
+      number r ≡ 0 → out' ≡ splice out 0 (ack_bytes (ack_for p)) → Received (acked now t p) r l l' out out'
   taken_done {r} l out q n e =
       record {
-        answer = q.0 ∙ sym (answer_writing (ack_bytes (ack_for p)) (merged_in now t p));
+        answer = answer_writing (ack_bytes (ack_for p)) (merged_in now t p) r q.0;
         table = q.1 ∙ sym (table_writing (ack_bytes (ack_for p)) l (merged_in now t p));
-        output = e ∙ sym (all_written now t p out (sym (ap (λ (a : Answer). a.number) q.0) ∙ n));
+        output = e ∙ sym (all_written now t p out (sym q.0.number ∙ n));
       }
 
 -- ---- 5 and 13
@@ -201,15 +210,15 @@ module _ {l : List ℕ} {now : ℕ} {m : List ℕ} {space : ℕ} (k : Receives l
 
       -- the copy was refused, or it came back and the acknowledgement is written
       pub take_refused : {r : Answer} (out : List ℕ) {l' : List ℕ} →
-          (r ≡ answer_of (merged_in now (table_of l) (message_of m))) × (l' ≡ table_after (merged_in now (table_of l) (message_of m)) l) →
-          (r.number ≡ 0 → ⊥) → Received (take_in now (table_of l) (message_of m)) r l l' out out
+          Answered (merged_in now (table_of l) (message_of m)) r × (l' ≡ table_after (merged_in now (table_of l) (message_of m)) l) →
+          (number r ≡ 0 → ⊥) → Received (take_in now (table_of l) (message_of m)) r l l' out out
       take_refused {r} out {l'} q n =
           subst (λ (o : Outcome). Received o r l l' out out) (sym (take_acked now (table_of l) (message_of m) mine even))
           (taken_refused now (table_of l) (message_of m) l out q n)
 
       pub take_done : {r : Answer} (out : List ℕ) {l' out' : List ℕ} →
-          (r ≡ answer_of (merged_in now (table_of l) (message_of m))) × (l' ≡ table_after (merged_in now (table_of l) (message_of m)) l) →
-          r.number ≡ 0 → out' ≡ splice out 0 (ack_bytes (ack_for (message_of m))) →
+          Answered (merged_in now (table_of l) (message_of m)) r × (l' ≡ table_after (merged_in now (table_of l) (message_of m)) l) →
+          number r ≡ 0 → out' ≡ splice out 0 (ack_bytes (ack_for (message_of m))) →
           Received (take_in now (table_of l) (message_of m)) r l l' out out'
       take_done {r} out {l'} {out'} q n e =
           subst (λ (o : Outcome). Received o r l l' out out') (sym (take_acked now (table_of l) (message_of m) mine even))
@@ -268,15 +277,15 @@ pub receives : (l : List ℕ) (now : ℕ) (m : List ℕ) (space : ℕ) → sound
 receives l now m space s e f p = record { sound = s; early = e; fits = f; push = p }
 
 -- the three parts of the call's contract
-pub refused_parts : {o : Outcome} {k : ℕ} (l out : List ℕ) → o ≡ refused k →
-    (record { number = k; value = 0 } ≡ answer_of o) × (l ≡ table_after o l) × (out ≡ output_after o out)
-refused_parts l out e =
-    (ap answer_of (sym e), ap (λ (o : Outcome). table_after o l) (sym e), ap (λ (o : Outcome). output_after o out) (sym e))
+pub refused_parts : (r : Refusal) {o : Outcome} (l out : List ℕ) → o ≡ refused (code r) →
+    Answered o (Err r) × (l ≡ table_after o l) × (out ≡ output_after o out)
+refused_parts r l out e =
+    (answers_refused r e, ap (λ (o : Outcome). table_after o l) (sym e), ap (λ (o : Outcome). output_after o out) (sym e))
 
 pub received_parts : {o q : Outcome} {r : Answer} (l out : List ℕ) {l' out' : List ℕ} → o ≡ q → Received q r l l' out out' →
-    (r ≡ answer_of o) × (l' ≡ table_after o l) × (out' ≡ output_after o out)
+    Answered o r × (l' ≡ table_after o l) × (out' ≡ output_after o out)
 received_parts l out e k = (
-  k.answer ∙ ap answer_of (sym e),
+  answers_instead (sym e) k.answer,
   k.table ∙ ap (λ (o : Outcome). table_after o l) (sym e),
   k.output ∙ ap (λ (o : Outcome). output_after o out) (sym e),
 )

@@ -1,7 +1,7 @@
 -- The fresh table's bytes, as they are written over zeros, and the refusals of `start`: what the contracts of
 -- `service::start` cite. Assumes nothing.
-use Rattle.std.specs.Prelude.{◌≡◌, refl, true, false, ◌&&◌, List, [], ◌∷◌, ◌++◌, ℕ, zero, suc, ◌+◌, ◌-◌, ◌≤◌, ◌<◌, eqb, length, drop, get_or, set}
-use Rattle.std.proofs.Common.{ap, sym, ◌∙◌, append_assoc, append-nil, add-one, arith, length-append, drop_of_length-le, drop-cons}
+use Rattle.std.specs.Prelude.{◌≡◌, refl, Bool, true, false, ltb, ◌&&◌, List, [], ◌∷◌, ◌++◌, ℕ, zero, suc, ◌+◌, ◌-◌, ◌≤◌, ◌<◌, eqb, length, drop, get_or, set}
+use Rattle.std.proofs.Common.{ap, sym, ltb-true, ltb-false, ◌∙◌, append_assoc, append-nil, add-one, arith, length-append, drop_of_length-le, drop-cons}
 use Rattle.std.proofs.lemmas.List.{set_at}
 use Rattle.codec.specs.Bytes.{splice, zeros}
 use Rattle.codec.specs.Laws.{splice_splice, length_zeros, zeros_add, drop_zeros}
@@ -36,6 +36,22 @@ pub zeros_end : (l : List ℕ) (i : ℕ) → i ≤ length l → length l ≤ i �
 zeros_end l i h k =
     let same : i ≡ length l = omega arith in
     ap (λ (r : List ℕ). zeros i ++ r) (drop_of_length-le l k) ∙ append-nil (zeros i) ∙ ap zeros same
+
+-- .. and where each byte is zero
+all_zero : (l : List ℕ) → ((k : ℕ) → k < length l → get_or l k 0 ≡ 0) → l ≡ zeros (length l)
+all_zero [] h = refl
+all_zero (x ∷ xs) h =
+    ap (λ (y : ℕ). y ∷ xs) (h 0 (omega arith)) ∙ ap (λ (r : List ℕ). 0 ∷ r) (all_zero xs (λ k q. h (suc k) (omega (arith, q))))
+
+pub zeros_filled : (old new : List ℕ) → length new ≡ length old → ((k d : ℕ) → 0 ≤ k → k < length old - 1 → get_or new k d ≡ 0) →
+    (0 < length old → (d : ℕ) → get_or new (length old - 1) d ≡ 0) → new ≡ zeros (length old)
+zeros_filled old new e f g = all_zero new (λ k q. go k q (ltb k (length old - 1)) refl) ∙ ap zeros e
+  where
+    go : (k : ℕ) → k < length new → (b : Bool) → ltb k (length old - 1) ≡ b → get_or new k 0 ≡ 0
+    go k q true p = f k 0 (omega arith) (ltb-true k (length old - 1) p)
+    go k q false p =
+        let last : k ≡ length old - 1 = omega (arith, ltb-false k (length old - 1) p, e, q) in
+        ap (λ (i : ℕ). get_or new i 0) last ∙ g (omega (arith, e, q)) 0
 
 -- ---- parts written over zeros
 

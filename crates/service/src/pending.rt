@@ -5,20 +5,22 @@ ghost use Rattle.document.specs.Calls.{pending_sum};
 ghost use Rattle.answers.specs.Forms.{Answered};
 ghost use Rattle.service.specs.Promises.{PendingPromise};
 
+use crate::judged::judged;
 use answers::Answer;
+use codec::Stored;
 use numbers::nodes;
+use slots::Table;
 use table::find;
 
 // The sum of the pending bits of m replicas.
-fn pending_bits(t: &[u8], m: usize) -> u32
-    requires { (13344 ≤ length t.now) × (m ≤ 64) }
+// A `for`: its invariant bounds the sum; `sum` and `fold` ask for the bound before they run.
+fn pending_bits(t: &Table, m: usize) -> u32
+    requires { m ≤ 64 }
     ensures { result ≡ pending_sum (slots_from (replica_in t.now) 0 m) }
 {
-    let mut n: u32 = 0;
-    let mut i = 0;
-    while i < m {
-        n += nodes::size(codec::get_u8(t, 32 + 48 * i + 44)) as u32;
-        i += 1;
+    let mut n = 0;
+    for i in 0..m {
+        n += u32::from(nodes::size(u8::read(t, 32 + 48 * i + 44)));
     }
     n
 }
@@ -27,14 +29,6 @@ fn pending_bits(t: &[u8], m: usize) -> u32
 pub fn pending(table: &[u8]) -> Answer
     ensures { PendingPromise Answered table.now result }
 {
-    if !table::is_sound(table) {
-        return Answer {
-            number: 1,
-            value: 0,
-        };
-    }
-    Answer {
-        number: 0,
-        value: pending_bits(table, find::replicas_used(table)),
-    }
+    let t = judged(table)?;
+    Ok(pending_bits(t, find::replicas_used(t)))
 }

@@ -1,19 +1,23 @@
 // Push: what a pending node has to be told of a held replica, as one message.
-ghost use Rattle.std.specs.Prelude.{length};
+// A cast loses nothing: that is proved where it stands, and `try_from` would add a refusal that never comes.
+ghost use Rattle.std.specs.Prelude.{◌≡◌, true, length};
 ghost use Rattle.document.specs.Tables.{table_of};
+ghost use Rattle.document.specs.Sound.{sound_bytes};
 ghost use Rattle.document.specs.Calls.{push_in};
 ghost use Rattle.answers.specs.Forms.{Answered, Writes};
 ghost use Rattle.service.specs.Pushing.{Pushes};
 ghost use Rattle.service.specs.Promises.{PushPromise};
 
-use answers::Answer;
+use crate::judged::judged;
+use answers::{Answer, Refusal};
 use changes::look;
+use codec::Stored;
 use numbers::nodes;
 use pushes::write;
-use slots::Replica;
+use slots::{Replica, Table};
 
 // Pushes a held replica to another node.
-fn push_held(t: &[u8], r: Replica, node: u8, out: &mut [u8]) -> Answer
+fn push_held(t: &Table, r: Replica, node: u8, out: &mut [u8]) -> Answer
     requires { Pushes t.now r node }
     ensures { Writes Answered (push_in r.head.id node (length out.old) (table_of t.now)) result
         out.old out.new }
@@ -21,52 +25,36 @@ fn push_held(t: &[u8], r: Replica, node: u8, out: &mut [u8]) -> Answer
     let header = write::header_of(t, r, node);
     let size = write::size_of(header);
     if out.len() < size {
-        return Answer {
-            number: 3,
-            value: 0,
-        };
+        return Err(Refusal::TooShort);
     }
     if !nodes::has(r.pending, node) {
-        return Answer {
-            number: 14,
-            value: 0,
-        };
+        return Err(Refusal::NotPending);
     }
     write::write(t, r, header, out);
-    Answer {
-        number: 0,
-        value: size as u32,
+    Ok(size as u32)
+}
+
+// Pushes from a table that is sound.
+fn push_sound(t: &Table, id: u64, node: u64, out: &mut [u8]) -> Answer
+    requires { sound_bytes t.now ≡ true }
+    ensures { Writes Answered (push_in id node (length out.old) (table_of t.now)) result out.old out.new }
+{
+    let n = u8::read(t, 3);
+    let own = u8::read(t, 2);
+    if !nodes::is_node(n, node) || node == u64::from(own) {
+        return Err(Refusal::OutOfRange);
     }
+    let Some(s) = look::slot_of(t, id) else {
+        return Err(Refusal::NotHeld);
+    };
+    let r = Replica::read(t, 32 + 48 * s);
+    push_held(t, r, node as u8, out)
 }
 
 // Writes the push of the replica for the node at the front of `out`; the value is its length.
 pub fn push(table: &[u8], id: u64, node: u64, out: &mut [u8]) -> Answer
     ensures { PushPromise Answered table.now id node out.old result out.new }
 {
-    if !table::is_sound(table) {
-        return Answer {
-            number: 1,
-            value: 0,
-        };
-    }
-    if !nodes::is_node(codec::get_u8(table, 3), node) {
-        return Answer {
-            number: 2,
-            value: 0,
-        };
-    }
-    if node == codec::get_u8(table, 2) as u64 {
-        return Answer {
-            number: 2,
-            value: 0,
-        };
-    }
-    let found = look::slot_of(table, id);
-    let Some(s) = found else {
-        return Answer {
-            number: 6,
-            value: 0,
-        };
-    };
-    push_held(table, Replica::read(table, 32 + 48 * s), node as u8, out)
+    let t = judged(table)?;
+    push_sound(t, id, node, out)
 }

@@ -1,32 +1,22 @@
 // Start: the bytes of a fresh table.
-ghost use Rattle.std.specs.Prelude.{◌≡◌, ◌≤◌, length};
-ghost use Rattle.codec.specs.Bytes.{zeros};
+// A cast loses nothing: that is proved where it stands, and `try_from` would add a refusal that never comes.
+ghost use Rattle.std.specs.Prelude.{◌≡◌, ◌≤◌};
 ghost use Rattle.document.specs.Tables.{fresh, table_bytes};
 ghost use Rattle.answers.specs.Forms.{Answered};
 ghost use Rattle.service.specs.Promises.{StartPromise};
 
-use answers::Answer;
+use answers::{Answer, Refusal};
+use codec::Stored;
 use numbers::nodes;
 use records::Head;
-use slots::{Replica, TableHeader};
-
-// Writes zeros over all of t.
-fn erase(t: &mut [u8])
-    ensures { t.new ≡ zeros (length t.old) }
-{
-    let mut i = 0;
-    while i < t.len() {
-        t[i] = 0;
-        i += 1;
-    }
-}
+use slots::{Replica, Table, TableHeader};
 
 // Writes the fresh table of the node in a cluster of n.
-fn refresh(t: &mut [u8], node: u8, n: u8)
-    requires { (length t.old ≡ 13344) × (n ≤ 8) }
+fn refresh(t: &mut Table, node: u8, n: u8)
+    requires { n ≤ 8 }
     ensures { t.new ≡ table_bytes (fresh node n) }
 {
-    erase(t);
+    t.fill(0);
     let header = TableHeader {
         own: node,
         nodes: n,
@@ -46,27 +36,12 @@ fn refresh(t: &mut [u8], node: u8, n: u8)
 pub fn start(table: &mut [u8], node: u64, n: u64) -> Answer
     ensures { StartPromise Answered table.old node n result table.new }
 {
-    if table.len() != 13344 {
-        return Answer {
-            number: 1,
-            value: 0,
-        };
+    let Some(t) = table.as_mut_array() else {
+        return Err(Refusal::NotSound);
+    };
+    if !nodes::is_size(n) || !nodes::is_node(n as u8, node) {
+        return Err(Refusal::OutOfRange);
     }
-    if !nodes::is_size(n) {
-        return Answer {
-            number: 2,
-            value: 0,
-        };
-    }
-    if !nodes::is_node(n as u8, node) {
-        return Answer {
-            number: 2,
-            value: 0,
-        };
-    }
-    refresh(table, node as u8, n as u8);
-    Answer {
-        number: 0,
-        value: 0,
-    }
+    refresh(t, node as u8, n as u8);
+    Ok(0)
 }

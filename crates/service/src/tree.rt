@@ -3,7 +3,8 @@
 ghost use Rattle.answers.specs.Forms.{Answered};
 ghost use Rattle.service.specs.Promises.{CreatePromise, RemovePromise, RenamePromise, SpreadPromise, UnlinkPromise};
 
-use answers::Answer;
+use crate::judged::sound;
+use answers::{Answer, Refusal};
 
 // Creates a file (1) or a directory (2) with that name in the directory, for the nodes of the set; the
 // value is its id.
@@ -17,12 +18,7 @@ pub fn create(
 ) -> Answer
     ensures { CreatePromise Answered table.old time directory kind name.now set result table.new }
 {
-    if !table::is_sound(table) {
-        return Answer {
-            number: 1,
-            value: 0,
-        };
-    }
+    let table = sound(table).ok_or(Refusal::NotSound)?;
     changes::create::create(table, time, directory, kind, name, set)
 }
 
@@ -30,12 +26,7 @@ pub fn create(
 pub fn unlink(table: &mut [u8], time: u64, id: u64) -> Answer
     ensures { UnlinkPromise Answered table.old time id result table.new }
 {
-    if !table::is_sound(table) {
-        return Answer {
-            number: 1,
-            value: 0,
-        };
-    }
+    let table = sound(table).ok_or(Refusal::NotSound)?;
     changes::unlink::unlink(table, time, id)
 }
 
@@ -43,12 +34,7 @@ pub fn unlink(table: &mut [u8], time: u64, id: u64) -> Answer
 pub fn rename(table: &mut [u8], time: u64, id: u64, directory: u64, name: &[u8]) -> Answer
     ensures { RenamePromise Answered table.old time id directory name.now result table.new }
 {
-    if !table::is_sound(table) {
-        return Answer {
-            number: 1,
-            value: 0,
-        };
-    }
+    let table = sound(table).ok_or(Refusal::NotSound)?;
     changes::rename::rename(table, time, id, directory, name)
 }
 
@@ -56,12 +42,7 @@ pub fn rename(table: &mut [u8], time: u64, id: u64, directory: u64, name: &[u8])
 pub fn remove(table: &mut [u8], time: u64, id: u64) -> Answer
     ensures { RemovePromise Answered table.old time id result table.new }
 {
-    if !table::is_sound(table) {
-        return Answer {
-            number: 1,
-            value: 0,
-        };
-    }
+    let table = sound(table).ok_or(Refusal::NotSound)?;
     changes::remove::remove(table, time, id)
 }
 
@@ -69,11 +50,6 @@ pub fn remove(table: &mut [u8], time: u64, id: u64) -> Answer
 pub fn spread(table: &mut [u8], id: u64, set: u64) -> Answer
     ensures { SpreadPromise Answered table.old id set result table.new }
 {
-    if !table::is_sound(table) {
-        return Answer {
-            number: 1,
-            value: 0,
-        };
-    }
+    let table = sound(table).ok_or(Refusal::NotSound)?;
     changes::spread::spread(table, id, set)
 }

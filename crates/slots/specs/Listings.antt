@@ -54,11 +54,11 @@ listed_range n l o =
     )
 
 pub listed_stores : (l : List ℕ) (o : ℕ) (x : Listed) → o + 40 ≤ length l →
-    splice (splice (splice l o (entry_bytes x.entry)) (o + 32) (u32 x.directory)) (o + 36) (u32 0)
+    splice (splice (splice l o (entry_bytes x.entry)) (o + 32) (u32 x.directory)) (o + 36) (zeros 4)
     ≡ splice l o (listed_bytes x)
 unfolding listed_bytes entry_bytes bytes_of
 listed_stores l o x f =
-    rw add-zero at (splices_splice l o 0 (entry_bytes x.entry ∷ u32 x.directory ∷ u32 0 ∷ []) (omega arith))
+    rw add-zero at (splices_splice l o 0 (entry_bytes x.entry ∷ u32 x.directory ∷ zeros 4 ∷ []) (omega arith))
 
 pub listed_round : (x : Listed) → ListedFit x → listed_of (listed_bytes x) ≡ x
 unfolding listed_of listed_bytes entry_bytes bytes_of chunk

@@ -61,11 +61,11 @@ table_range l o = cc (marked_chunk l o 32 table_mark (omega arith), zero_chunk l
 
 -- the stores of the code, one behind the other
 pub table_stores : (l : List ℕ) (o : ℕ) (t : TableHeader) → o + 32 ≤ length l →
-    splice (splice (splice (splice (splice l o (78 ∷ 84 ∷ t.own ∷ t.nodes ∷ [])) (o + 4) (u32 t.next)) (o + 8) (u64 t.highest))
-    (o + 16) (u64 0)) (o + 24) (u64 0)
+    splice (splice (splice (splice l o (78 ∷ 84 ∷ t.own ∷ t.nodes ∷ [])) (o + 4) (u32 t.next)) (o + 8) (u64 t.highest))
+    (o + 16) (zeros 16)
     ≡ splice l o (table_header_bytes t)
 unfolding table_header_bytes bytes_of
-table_stores l o t f = rw add-zero at (splices_splice l o 0 ((78 ∷ 84 ∷ t.own ∷ t.nodes ∷ []) ∷ u32 t.next ∷ u64 t.highest ∷ u64 0 ∷ u64 0 ∷ []) (omega arith))
+table_stores l o t f = rw add-zero at (splices_splice l o 0 ((78 ∷ 84 ∷ t.own ∷ t.nodes ∷ []) ∷ u32 t.next ∷ u64 t.highest ∷ zeros 16 ∷ []) (omega arith))
 
 -- ---- read back
 

@@ -1,53 +1,57 @@
 // An entry slot: an entry, and the directory that it is listed in.
 ghost use Rattle.std.specs.Prelude.{◌≡◌, ◌+◌, ◌≤◌, length};
-ghost use Rattle.codec.specs.Bytes.{chunk, splice};
-ghost use Rattle.slots.specs.Listings.{listed_at, listed_bytes, listed_in_range};
+ghost use Rattle.codec.specs.Bytes.{chunk};
+ghost use Rattle.codec.specs.Laws.{of_chunk};
+ghost use Rattle.slots.specs.Listings.{listed_of, listed_at, listed_bytes, listed_in_range, length_listed_bytes};
 
+use codec::{Record, Stored};
 use numbers::ids;
 use records::Entry;
 
-#[derive(Clone, Copy)]
+#[derive(Clone, Copy, PartialEq, Eq)]
 pub struct Listed {
     pub entry: Entry,
     pub directory: u32,
 }
 
 impl Listed {
-    pub const SIZE: usize = 40;
-
-    // The entry and its directory that stand at o.
-    pub fn read(t: &[u8], o: usize) -> Self
-        requires { o + 40 ≤ length t.now }
-        ensures { result ≡ listed_at t.now o }
-    {
-        let entry = Entry::read(t, o);
-        let directory = codec::get_u32(t, o + Entry::SIZE);
-        Self { entry, directory }
-    }
-
-    // Writes the entry and its directory at o.
-    pub fn write(self, t: &mut [u8], o: usize)
-        requires { o + 40 ≤ length t.old }
-        ensures { t.new ≡ splice t.old o (listed_bytes self) }
-    {
-        let entry = self.entry;
-        entry.write(t, o);
-        codec::put_u32(t, o + Entry::SIZE, self.directory);
-        codec::put_u32(t, o + 36, 0);
-    }
-
     // Whether the forty bytes from o on are an entry and its directory in their range.
+    #[tactic(auto, using(crate::specs::Listings::listed_range))]
     pub fn in_range(t: &[u8], o: usize, n: u8) -> bool
         requires { o + 40 ≤ length t.now }
         ensures { result ≡ listed_in_range n (chunk t.now o 40) }
     {
-        if !Entry::in_range(t, o, n) {
-            return false;
-        }
-        let directory = codec::get_u32(t, o + Entry::SIZE);
-        if !ids::is_id(n, directory) {
-            return false;
-        }
-        codec::is_zero(t, o + 36, 4)
+        Entry::in_range(t, o, n)
+            && ids::is_id(n, u32::read(t, o + Entry::SIZE))
+            && codec::is_zero(t, o + 36, 4)
     }
+}
+
+impl Stored for Listed {
+    const SIZE: usize = 40;
+
+    ghost SIZE = { 40 };
+
+    ghost at = { listed_at };
+
+    ghost bytes = { listed_bytes };
+
+    #[tactic(auto, using(crate::specs::Listings::listed_fields))]
+    fn read(t: &[u8], o: usize) -> Listed {
+        Listed {
+            entry: Entry::read(t, o),
+            directory: u32::read(t, o + Entry::SIZE),
+        }
+    }
+
+    #[tactic(auto, using(crate::specs::Listings::listed_stores))]
+    fn write(self, t: &mut [u8], o: usize) {
+        self.entry.write(t, o);
+        self.directory.write(t, o + Entry::SIZE);
+        codec::put_bytes(t, o + 36, [0; 4]);
+    }
+
+    ghost sized = { length_listed_bytes };
+
+    ghost within = { of_chunk listed_of 40 };
 }

@@ -1,5 +1,6 @@
 pub mod Grown
 pub mod Joining
+pub mod Message
 pub mod Putting
 pub mod Room
 pub mod Settling

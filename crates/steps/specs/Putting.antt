@@ -51,10 +51,9 @@ put_fits h (r ∷ rs) f (more p ps) = go (eqb r.head.id h.id) (put_fits h rs f p
 
 -- ---- the bytes
 
--- the table stands, m of its slots are used, and no slot has the head's id
-pub record Adds (l : List ℕ) (m : ℕ) (h : Head) : Type 0 where
+-- the table stands, and no slot has the head's id
+pub record Adds (l : List ℕ) (h : Head) : Type 0 where
   pub stands : Stands l
-  pub used : m ≡ replicas_used l
   pub absent : first_replica l (replicas_used l) h.id ≡ None
 
 module _ {l : List ℕ} (k : Stands l) (b : Bytes l) (h : Head) (f : HeadFit h) where

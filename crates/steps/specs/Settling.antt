@@ -38,11 +38,11 @@ use Rattle.steps.specs.Joining.{set_same}
 use Rattle.steps.specs.Writes.{slot_rewritten}
 use Rattle.steps.specs.Grown.{Grown, Grows, rest, next, Slots, grows_slots, each_slots, first_or, SameId, NotIn, SameDirectory, Anything}
 
--- entry slot s is none of the directory's, or is one of the first k and as it was
-abbrev pub is_slot_same : List ℕ → List ℕ → ℕ → ℕ → ℕ → Bool
-is_slot_same old t k d s =
+-- entry slot s is none of the directory's, or was used and is as it was
+abbrev pub is_slot_same : List ℕ → List ℕ → ℕ → ℕ → Bool
+is_slot_same old t d s =
     not (eqb (u32_at t (entry_slot s + 32)) d)
-    || (ltb s k && same_bytes (chunk old (entry_slot s) 32) (chunk t (entry_slot s) 32))
+    || (ltb s (entries_used old) && same_bytes (chunk old (entry_slot s) 32) (chunk t (entry_slot s) 32))
 
 -- no version is past its end
 abbrev pub all_numbered : Table → Bool
@@ -55,11 +55,9 @@ pub record Settles (old t : List ℕ) : Type 0 where
   pub unique : ids_unique (table_of old) ≡ true
   pub grown : Grown (table_of old) (table_of t)
 
--- and slot i is one of its replicas
-pub record Compares (old t : List ℕ) (m k n i : ℕ) : Type 0 where
+-- and n entry slots of it are used, and slot i is one of its replicas
+pub record Compares (old t : List ℕ) (n i : ℕ) : Type 0 where
   pub settles : Settles old t
-  pub replicas : m ≡ replicas_used old
-  pub entries : k ≡ entries_used old
   pub present : n ≡ entries_used t
   pub slot : i < replicas_used t
 
@@ -190,7 +188,7 @@ each_set P [] i x p end = end
 each_set P (y ∷ ys) zero x p (more q qs) = more {x = x} p qs
 each_set P (y ∷ ys) (suc i) x p (more q qs) = more {x = y} q (each_set P ys i x p qs)
 
-module _ {old t : List ℕ} (b : Bytes old) (c : Bytes t) {m k n i : ℕ} (p : Compares old t m k n i) where
+module _ {old t : List ℕ} (b : Bytes old) (c : Bytes t) {n i : ℕ} (p : Compares old t n i) where
   abbrev was : Table
   was = table_of old
 
@@ -209,42 +207,38 @@ module _ {old t : List ℕ} (b : Bytes old) (c : Bytes t) {m k n i : ℕ} (p : C
   entry_slots_law = grows_slots SameDirectory Anything (entry_in old) (entry_in t) 0 (entries_used old) (entries_used t) p.settles.grown.entries
 
   -- it is new
-  pub is_new : m ≤ i → false ≡ unchanged was is head
+  pub is_new : replicas_used old ≤ i → false ≡ unchanged was is head
   is_new h =
       and_stop _ _
       (ap (λ (o : Option Replica). same_head head (head_of? o))
-      (replica_slots_law.new i (omega (arith, p.replicas)) (omega (arith, p.slot))))
+      (replica_slots_law.new i (omega arith) (omega (arith, p.slot))))
 
   -- it was in the same slot
-  was_there : i < m → head_of was head.id ≡ some (replica_in old i).head
+  was_there : i < replicas_used old → head_of was head.id ≡ some (replica_in old i).head
   unfolding table_of
   was_there h =
-      let low : i < replicas_used old = omega (arith, p.replicas) in
       ap (λ (f : ℕ). head_of was f) (replica_slots_law.same i (omega arith) (omega arith))
       ∙ ap head_of? (find_member was.replicas p.settles.unique (replica_in old i)
       (slot_in_law (replica_in old) 0 (replicas_used old) i (omega arith) (omega arith)))
 
-  same_there : i < m →
+  same_there : i < replicas_used old →
       same_head head (head_of was head.id) ≡ same_bytes (chunk old (replica_slot i) 40) (chunk t (replica_slot i) 40)
   same_there h =
-      let low : i < replicas_used old = omega (arith, p.replicas) in
       ap (same_head head) (was_there h)
-      ∙ sym (head_test (replica_in old i).head head (replica_fits_law p.settles.before b i low).head (replica_fits_law p.settles.after c i p.slot).head)
-      ∙ ap (λ (z : List ℕ). same_bytes z (head_bytes head)) (sym (head_bytes_law p.settles.before i low))
+      ∙ sym (head_test (replica_in old i).head head (replica_fits_law p.settles.before b i h).head (replica_fits_law p.settles.after c i p.slot).head)
+      ∙ ap (λ (z : List ℕ). same_bytes z (head_bytes head)) (sym (head_bytes_law p.settles.before i h))
       ∙ ap (same_bytes (chunk old (replica_slot i) 40)) (sym (head_bytes_law p.settles.after i p.slot))
 
   -- another head
-  pub is_renewed : i < m → same_bytes (chunk old (replica_slot i) 40) (chunk t (replica_slot i) 40) ≡ false →
+  pub is_renewed : i < replicas_used old → same_bytes (chunk old (replica_slot i) 40) (chunk t (replica_slot i) 40) ≡ false →
       false ≡ unchanged was is head
   is_renewed h e = and_stop _ _ (same_there h ∙ e)
 
   -- its entries
-  slot_test : (d s : ℕ) → s < entries_used t → keeps (entry_in old) (entry_in t) (entries_used old) d s ≡ is_slot_same old t k d s
+  slot_test : (d s : ℕ) → s < entries_used t → keeps (entry_in old) (entry_in t) (entries_used old) d s ≡ is_slot_same old t d s
   slot_test d s h =
       ap (λ (z : ℕ). not (eqb z d) || (ltb s (entries_used old) && same_entry (entry_in old s).entry (entry_in t s).entry)) (directory_at t s)
       ∙ ap (λ (z : Bool). not (eqb (u32_at t (entry_slot s + 32)) d) || z) (go (ltb s (entries_used old)) refl)
-      ∙ ap (λ (z : ℕ). not (eqb (u32_at t (entry_slot s + 32)) d)
-      || (ltb s z && same_bytes (chunk old (entry_slot s) 32) (chunk t (entry_slot s) 32))) (sym p.entries)
     where
       go : (z : Bool) → ltb s (entries_used old) ≡ z →
           (ltb s (entries_used old) && same_entry (entry_in old s).entry (entry_in t s).entry)
@@ -257,12 +251,12 @@ module _ {old t : List ℕ} (b : Bytes old) (c : Bytes t) {m k n i : ℕ} (p : C
           ∙ ap (same_bytes (chunk old (entry_slot s) 32)) (sym (entry_bytes_law p.settles.after s h)))
       go false e = rw e refl
 
-  pub is_kept : i < m → same_bytes (chunk old (replica_slot i) 40) (chunk t (replica_slot i) 40) ≡ true → (d : ℕ) →
-      d ≡ u32_at t (replica_slot i + 4) → every_slot (is_slot_same old t k d) 0 n ≡ unchanged was is head
+  pub is_kept : i < replicas_used old → same_bytes (chunk old (replica_slot i) 40) (chunk t (replica_slot i) 40) ≡ true → (d : ℕ) →
+      d ≡ u32_at t (replica_slot i + 4) → every_slot (is_slot_same old t d) 0 n ≡ unchanged was is head
   unfolding table_of
   is_kept h e d q =
       and_go _ _ (same_there h ∙ e)
-      (ap (λ (z : ℕ). every_slot (is_slot_same old t k d) 0 z) p.present
+      (ap (λ (z : ℕ). every_slot (is_slot_same old t d) 0 z) p.present
       ∙ sym (slots_agree _ _ 0 (entries_used t) (λ s low. slot_test d s (omega arith)))
       ∙ sym (entries_test (entry_in old) (entry_in t) (entries_used old) d 0 (entries_used old) (entries_used t) (omega arith) entry_slots_law)
       ∙ ap (λ (z : ℕ). same_entries (entries_of z was.entries) (entries_of z is.entries)) (q ∙ sym (id_at t i)))
@@ -446,9 +440,8 @@ module _ {old t : List ℕ} (p : Settles old t) (l : List ℕ) (i : ℕ)
     sym (entries_held l) ∙ ap (λ (u : Table). length u.entries) k.table ∙ entries_held t,
   )
 
-  pub turn_compares : {a b n : ℕ} → a ≡ replicas_used old → b ≡ entries_used old → n ≡ entries_used t → i < replicas_used t →
-      Compares old l a b n i
-  turn_compares ea eb en h =
+  pub turn_compares : {n : ℕ} → n ≡ entries_used t → i < replicas_used t → Compares old l n i
+  turn_compares en h =
       record {
         settles =
             record {
@@ -462,8 +455,6 @@ module _ {old t : List ℕ} (p : Settles old t) (l : List ℕ) (i : ℕ)
                     entries = p.grown.entries;
                   });
             };
-        replicas = ea;
-        entries = eb;
         present = en ∙ sym turn_used.1;
         slot = omega (arith, turn_used.0, h);
       }

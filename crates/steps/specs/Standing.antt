@@ -1,6 +1,8 @@
 -- The bytes of a working copy, and the table that they are. Between the steps of a call the table need not be sound (a
 -- new replica has version 0 until the end); what stays is that its bytes can be read back. Assumes nothing.
-use Rattle.std.specs.Prelude.{◌≡◌, refl, Bool, true, false, List, [], ◌∷◌, ◌++◌, ℕ, zero, suc, ◌+◌, ◌*◌, ◌^◌, ◌≤◌, ◌<◌, eqb, length, drop}
+use Rattle.std.specs.Prelude.{◌≡◌, refl, Bool, true, false, is_ok, List, [], ◌∷◌, ◌++◌, ℕ, zero, suc, ◌+◌, ◌*◌, ◌^◌, ◌≤◌, ◌<◌, eqb, length, drop}
+use Rattle.std.specs.Prelude.{Result, Ok, Err, IsErr, is_some, MatchOption, Option as Slot, Some, None}
+use Rattle.std.proofs.Math.Option.{Option, some, none}
 use Rattle.std.proofs.Common.{ap, sym, subst, ◌∙◌, arith, eqb-true}
 use mathlib.Core.List.Memᴰ
 use Rattle.std.proofs.lemmas.Bool.{eqb-false}
@@ -140,6 +142,22 @@ moved {a} {l} {t} k e = subst (λ (z : List ℕ). Is z t) (sym e) k
 
 pub never : {P : Type 0} → false ≡ true → P
 never e = let z : ◌≡◌ {A = ℕ} 0 1 = cc in absurd (omega arith)
+
+-- an error is no success
+pub err_not_ok : {T E : Type 0} (r : Result T E) → IsErr r → is_ok r ≡ false
+err_not_ok (Ok x) e = never e
+err_not_ok (Err x) e = refl
+
+-- what was looked up, or that there is none
+pub looked_some : {A : Type 0} (o : Slot A) {m : Option A} → MatchOption o (m ≡ none) (λ x. m ≡ some x) → is_some o ≡ true →
+    (x : A) × (m ≡ some x)
+looked_some (Some x) k e = (x, k)
+looked_some None k e = never e
+
+pub looked_none : {A : Type 0} (o : Slot A) {m : Option A} → MatchOption o (m ≡ none) (λ x. m ≡ some x) → is_some o ≡ false →
+    m ≡ none
+looked_none (Some x) k e = never (sym e)
+looked_none None k e = k
 
 -- a sound table stands
 pub sound_stands : (l : List ℕ) → sound_bytes l ≡ true → Bytes l → Stands l

@@ -6,7 +6,12 @@ use Rattle.std.proofs.Common.{sym, ◌∙◌, true≢false, zero-add, add-one, l
 use Rattle.std.proofs.Math.Bool.{true, false, cond}
 use Prim.Native.Nat.{ℕ, zero, suc, ◌+◌, ◌≤◌, ◌<◌}
 use native.Mathlib.Omega.{arith}
+use mathlib.Core.List.{map}
+use Rattle.std.proofs.Math.ListN.{get_or-map}
+use Rattle.std.proofs.lemmas.List.{map-set}
+use Rattle.std.proofs.Common.{subst}
 use Rattle.codec.specs.Bytes.{zeros}
+use Rattle.table.specs.declared.counts.Tally.{Tally}
 use Rattle.document.specs.Tables.{has_id, replica_in, entry_in}
 use Rattle.table.specs.Slots.{first_slot, first_replica, count_slots, is_listed_in, entries_in}
 use Rattle.table.specs.Rules.{ids_new}
@@ -22,6 +27,10 @@ entries_under l k s = entries_in l k (replica_in l s).head.id
 -- 64 counts; that of each of m slots is of the first k entries
 abbrev pub Counted : List ℕ → ℕ → ℕ → List ℕ → Type 0
 Counted l m k counts = (length counts ≡ 64) × ((s : ℕ) → s < m → get_or counts s 0 ≡ entries_under l k s)
+
+-- the same of 64 tallies
+abbrev pub Tallied : List ℕ → ℕ → ℕ → List Tally → Type 0
+Tallied l m k tallies = Counted l m k (map (λ (x : Tally). x.count) tallies)
 
 -- ---- an entry is listed in the slot in which its directory is found, and in no other
 
@@ -128,3 +137,24 @@ counted_at l m i q counts new within found all =
 -- a count of i entries is at most i
 pub counted_most : (l : List ℕ) (m i s : ℕ) (counts : List ℕ) → s < m → Counted l m i counts → get_or counts s 0 ≤ i
 counted_most l m i s counts h all = omega (arith, all.1 s h, count_most (is_under l s) 0 i)
+
+-- ---- the same of tallies
+
+pub tallied_at : (l : List ℕ) (m k s : ℕ) (tallies : List Tally) → s < m → Tallied l m k tallies →
+    (get_or tallies s (record { count = 0; place = 0 })).count ≡ entries_under l k s
+tallied_at l m k s tallies h all = sym (get_or-map (λ (x : Tally). x.count) tallies s (record { count = 0; place = 0 })) ∙ all.1 s h
+
+pub tallied_raised : (l : List ℕ) (m i q : ℕ) (tallies : List Tally) → ids_new l m ≡ true → q < 64 →
+    first_replica l m (entry_in l i).directory ≡ Some q → Tallied l m i tallies →
+    Tallied l m (i + 1) (set tallies q (record {
+      count = (get_or tallies q (record { count = 0; place = 0 })).count + 1;
+      place = (get_or tallies q (record { count = 0; place = 0 })).place;
+    }))
+tallied_raised l m i q tallies new within found all =
+    let f : Tally → ℕ = λ (x : Tally). x.count in
+    let was = get_or tallies q (record { count = 0; place = 0 }) in
+    subst (Counted l m (i + 1))
+    (sym
+    (map-set f tallies q (record { count = was.count + 1; place = was.place })
+    ∙ ap (λ (n : ℕ). set (map f tallies) q (n + 1)) (sym (get_or-map f tallies q (record { count = 0; place = 0 })))))
+    (counted_at l m i q (map f tallies) new within found all)

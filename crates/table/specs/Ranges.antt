@@ -1,10 +1,11 @@
 -- A slot in its range, and what a table in its range says of N. What the contracts of `table::range` cite.
 -- Assumes nothing.
-use Rattle.std.specs.Prelude.{◌≡◌, Bool, true, ◌&&◌, List, ℕ, ◌*◌, ◌-◌, ◌≤◌, eqb, leb, length}
-use Rattle.std.proofs.Common.{sym, arith, leb-true, eqb-true}
+use Rattle.std.specs.Prelude.{◌≡◌, refl, Bool, true, false, ◌&&◌, List, ℕ, ◌*◌, ◌-◌, ◌≤◌, eqb, leb, length}
+use Rattle.std.proofs.Common.{ap, sym, ◌∙◌, arith, leb-true, eq-eqb, ne_eqb, eqb-true}
+use Rattle.std.proofs.Math.Bool.{and_assoc}
 use Rattle.codec.specs.Bytes.{chunk, u8_at, marked_at, zero_at}
 use Rattle.codec.specs.Laws.{get_or_chunk}
-use Rattle.codec.specs.Lists.{and_true}
+use Rattle.codec.specs.Lists.{and_go, and_stop, and_true}
 use Rattle.numbers.specs.Nodes.{is_size}
 use Rattle.slots.specs.TableHeaders.{table_mark, table_header_of, table_header_fits, table_header_in_range}
 use Rattle.slots.specs.Replicas.{replica_in_range}
@@ -42,6 +43,25 @@ pub range_tests : (l : List ℕ) (n m k : ℕ) → n ≡ (table_of l).nodes → 
 unfolding table_in_range
 range_tests l n m k p q r = rw (p, q, r)
 
+-- the same of a string that is as long as a table, kind by kind of slots
+pub range_halves : (l : List ℕ) (m k : ℕ) → length l ≡ 13344 → m ≡ replicas_used l → k ≡ entries_used l →
+    table_in_range l
+    ≡ (table_header_in_range (chunk l 0 32)
+    && ((every_slot (replica_slot_fits (u8_at l 3) l) 0 m && zero_at l (replica_slot m) (48 * (64 - m)))
+    && (every_slot (entry_slot_fits (u8_at l 3) l) 0 k && zero_at l (entry_slot k) (40 * (256 - k)))))
+range_halves l m k size q r =
+    let n = u8_at l 3 in
+    range_tests l n m k (nodes_at l) q r
+    ∙ sym (and_go (eqb (length l) 13344) _ (eq-eqb (length l) 13344 size) refl)
+    ∙ ap (λ (b : Bool). table_header_in_range (chunk l 0 32) && b)
+    (sym (and_assoc (every_slot (replica_slot_fits n l) 0 m) (zero_at l (replica_slot m) (48 * (64 - m)))
+    (every_slot (entry_slot_fits n l) 0 k && zero_at l (entry_slot k) (40 * (256 - k)))))
+
+-- a header in its range has at most 8 nodes
+pub header_nodes : (l : List ℕ) → table_header_in_range (chunk l 0 32) ≡ true → u8_at l 3 ≤ 8
+unfolding table_of
+header_nodes l r = omega (arith, nodes_at l, nodes_most (chunk l 0 32) r)
+
 -- a table in its range is as long as a table, and has at most 8 nodes
 pub range_length : (l : List ℕ) → table_in_range l ≡ true → length l ≡ 13344
 unfolding table_in_range
@@ -53,3 +73,8 @@ range_nodes l r =
     let a = and_true (eqb (length l) 13344) _ r in
     let b = and_true (table_header_in_range (chunk l 0 32)) _ a.1 in
     omega (arith, nodes_at l, nodes_most (chunk l 0 32) b.0)
+
+-- a string that is not as long as a table is none in its range
+pub range_other : (l : List ℕ) → (length l ≡ 13344 → ⊥) → table_in_range l ≡ false
+unfolding table_in_range
+range_other l n = sym (and_stop (eqb (length l) 13344) _ (ne_eqb _ _ n))

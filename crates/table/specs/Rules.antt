@@ -18,8 +18,8 @@ use Rattle.slots.specs.declared.listed.Listed.{Listed}
 use Rattle.slots.specs.TableHeaders.{table_header_of, table_header_at}
 use Rattle.slots.specs.Replicas.{replica_fields}
 use Rattle.slots.specs.Listings.{listed_fields}
-use Rattle.document.specs.Tables.{Table, find, head_of?, find_entry, entry_of?, is_key, slots_from, every_slot, replica_slot, entry_slot, replica_in, entry_in, replicas_used, entries_used, table_of, head_of}
-use Rattle.document.specs.Sound.{distinct, same_id, same_key, root_in, is_root_id, is_live, held_and, is_place_of, shows, maker_holds, is_part_of, is_parent, replica_keeps, entry_keeps, rules}
+use Rattle.document.specs.Tables.{Table, find, head_of?, find_entry, entry_of?, is_key, slots_from, every_slot, replica_slot, entry_slot, replica_in, entry_in, replicas_used, entries_used, table_of, head_of, table_in_range}
+use Rattle.document.specs.Sound.{distinct, same_id, same_key, root_in, is_root_id, is_live, held_and, is_place_of, shows, maker_holds, is_part_of, is_parent, replica_keeps, entry_keeps, rules, sound_bytes}
 use Rattle.table.specs.Slots.{first_replica, first_entry, found_slot, no_slot, every_slots, entries_in, entries_count}
 
 -- the table of the first m replica slots and the first k entry slots
@@ -156,6 +156,12 @@ rule_tests l m k =
 pub table_of_law : (l : List ℕ) → table_of l ≡ table_at l (replicas_used l) (entries_used l)
 unfolding table_of
 table_of_law l = refl
+
+-- "a sound table", over the slots that the code has found to be used
+pub sound_tests : (l : List ℕ) (m k : ℕ) → m ≡ replicas_used l → k ≡ entries_used l →
+    sound_bytes l ≡ (table_in_range l && rules (table_at l m k))
+unfolding sound_bytes table_of
+sound_tests l m k p q = rw (p, q)
 
 -- the key of slot s, over what the code has read of it
 pub key_test : (l : List ℕ) (s i : ℕ) (x : Listed) (e : Entry) (name : Name) → x ≡ entry_in l s → e ≡ x.entry →

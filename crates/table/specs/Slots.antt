@@ -1,6 +1,8 @@
 -- Slots as loops pass them: the first that passes a test, how many pass, and whether all do, with the step and the end of
 -- each, and what they say of the lists of `document`. What the contracts of `table::find` cite. Assumes nothing.
 use Rattle.std.specs.Prelude.{◌≡◌, refl, Bool, true, false, ◌&&◌, cond, List, ◌∷◌, ℕ, zero, suc, ◌+◌, ◌*◌, ◌-◌, ◌≤◌, ◌<◌, eqb, length, Option, Some, None}
+use Rattle.std.specs.Bool.{⊤}
+use Rattle.std.specs.Option.{MatchOption}
 use Rattle.std.proofs.Common.{ap, sym, ◌∙◌, arith, mul-add, eqb-true}
 use Rattle.std.proofs.Math.Option.{some, none}
 use Rattle.std.proofs.lemmas.Bool.{eqb-false}
@@ -10,8 +12,8 @@ use Rattle.names.specs.declared.Name.{Name}
 use Rattle.names.specs.Names.{name_at}
 use Rattle.records.specs.declared.head.Head.{Head}
 use Rattle.records.specs.declared.entry.Entry.{Entry}
-use Rattle.records.specs.Heads.{head_fields}
-use Rattle.records.specs.Entries.{entry_fields}
+use Rattle.records.specs.Heads.{head_at, head_fields}
+use Rattle.records.specs.Entries.{entry_at, entry_fields}
 use Rattle.slots.specs.declared.replica.Replica.{Replica}
 use Rattle.slots.specs.declared.listed.Listed.{Listed}
 use Rattle.slots.specs.Replicas.{replica_fields}
@@ -105,8 +107,14 @@ pub id_at : (l : List ℕ) (s : ℕ) → (replica_in l s).head.id ≡ u32_at l (
 id_at l s =
     ap (λ (r : Replica). r.head.id) (replica_fields l (replica_slot s)) ∙ ap (λ (h : Head). h.id) (head_fields l (replica_slot s))
 
+pub head_at_law : (l : List ℕ) (s : ℕ) → (replica_in l s).head ≡ head_at l (replica_slot s)
+head_at_law l s = ap (λ (r : Replica). r.head) (replica_fields l (replica_slot s))
+
 pub directory_at : (l : List ℕ) (s : ℕ) → (entry_in l s).directory ≡ u32_at l (entry_slot s + 32)
 directory_at l s = ap (λ (x : Listed). x.directory) (listed_fields l (entry_slot s))
+
+pub entry_at_law : (l : List ℕ) (s : ℕ) → (entry_in l s).entry ≡ entry_at l (entry_slot s)
+entry_at_law l s = ap (λ (x : Listed). x.entry) (listed_fields l (entry_slot s))
 
 pub child_at : (l : List ℕ) (s : ℕ) → (entry_in l s).entry.child ≡ u32_at l (entry_slot s + 4)
 child_at l s =
@@ -159,3 +167,8 @@ no_slot f g s (suc n) e = go (f (g s)) e (no_slot f g (suc s) n)
         cond b (some (g s)) (first f (slots_from g (suc s) n)) ≡ none
     go true p ih = let z : ◌≡◌ {A = ℕ} 0 1 = cc in absurd (omega arith)
     go false p ih = ih p
+
+-- the slot that was found is one of n
+pub found_within : (f : ℕ → Bool) (n : ℕ) (o : Option ℕ) → o ≡ first_slot f 0 n → MatchOption o ⊤ (λ i. i < n)
+found_within f n None e = tt
+found_within f n (Some i) e = omega (arith, (found_slot f (λ k. k) 0 n i (sym e)).1)

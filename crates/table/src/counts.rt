@@ -1,42 +1,60 @@
-// How many entries each directory has, by one pass over the entries.
-ghost use Rattle.std.specs.Prelude.{◌≡◌, true, ◌+◌, ◌≤◌, ◌<◌, length};
-ghost use Rattle.codec.specs.Bytes.{zeros};
-ghost use Rattle.table.specs.Rules.{ids_new};
-ghost use Rattle.table.specs.Counts.{Counted};
+// What one pass over the entries finds for each replica slot: how many entries are listed in it, and the
+// entry to look at first for the one at its place.
+ghost use Rattle.std.specs.Prelude.{◌≡◌, true, ◌+◌, ◌≤◌, ◌<◌, length, map};
+ghost use Rattle.table.specs.Counts.{Tallied};
 
-use crate::hints;
+use crate::hints::Index;
+use crate::slot;
+use crate::slot::{Key, Keyed};
+use slots::{Listed, Table};
 
-// A count of 0 for each replica slot.
-fn none() -> [u16; 64]
-    ensures { result ≡ zeros 64 }
-{
-    [0u16; 64]
+#[derive(Clone, Copy)]
+pub struct Tally {
+    pub count: u16,
+    pub place: u8,
 }
 
 // Raises the count of the directory of entry slot e, if it is held.
-fn raise(t: &[u8], m: usize, index: &[u8; 256], e: usize, counts: &mut [u16; 64])
-    requires { (13344 ≤ length t.now) × (m ≤ 64) × (e < 256) × (ids_new t.now m ≡ true)
-        × Counted t.now m e counts.old }
-    ensures { Counted t.now m (e + 1) counts.new }
+fn raise(index: &Index, e: usize, tallies: &mut [Tally; 64])
+    requires { (e < index.now.used.entries) × Tallied index.now.used.t.now index.now.used.replicas e tallies.old }
+    ensures { Tallied index.now.used.t.now index.now.used.replicas (e + 1) tallies.new }
 {
-    let directory = codec::get_u32(t, 3104 + 40 * e + 32);
-    let found = hints::replica(t, m, index, directory);
-    let Some(s) = found else {
+    let t = index.used.t;
+    let Some(s) = index.replica(slot::directory(t, e)) else {
         return;
     };
-    counts[s] += 1;
+    tallies[s].count += 1;
 }
 
-// For each of m replica slots, how many of k entries are listed in it.
-pub fn of_entries(t: &[u8], m: usize, k: usize, index: &[u8; 256]) -> [u16; 64]
-    requires { (13344 ≤ length t.now) × (m ≤ 64) × (k ≤ 256) × (ids_new t.now m ≡ true) }
-    ensures { Counted t.now m k result }
+// Whether entry slot e is at the place of replica slot s.
+fn is_at_place(t: &Table, s: usize, e: usize) -> bool
+    requires { (s < 64) × (e < 256) }
 {
-    let mut counts = none();
-    let mut i = 0;
-    while i < k {
-        raise(t, m, index, i, &mut counts);
-        i += 1;
+    Listed::has_key(t, e, Key::of_place(slot::head(t, s)))
+}
+
+// Notes entry slot e for the replica that is its child, if the index leads to it and it is at that place.
+fn note_place(index: &Index, e: usize, tallies: &mut [Tally; 64])
+    requires { e < index.now.used.entries }
+    ensures { map (λ x. x.count) tallies.new ≡ map (λ x. x.count) tallies.old }
+{
+    let t = index.used.t;
+    let Some(s) = index.led_to(slot::child(t, e)) else {
+        return;
+    };
+    if is_at_place(t, s, e) {
+        tallies[s].place = e as u8;
     }
-    counts
+}
+
+// The tally of each replica slot, over all entries.
+pub fn of_entries(index: &Index) -> [Tally; 64]
+    ensures { Tallied index.now.used.t.now index.now.used.replicas index.now.used.entries result }
+{
+    let mut tallies = [Tally { count: 0, place: 0 }; 64];
+    for e in 0..index.used.entries {
+        raise(index, e, &mut tallies);
+        note_place(index, e, &mut tallies);
+    }
+    tallies
 }

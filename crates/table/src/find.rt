@@ -1,26 +1,34 @@
-// What stands in the slots: how many are used, the slot of a replica by its id, the slot of an entry
-// by its key, and how many entries a directory has.
-ghost use Rattle.std.specs.Prelude.{◌≡◌, ◌+◌, ◌*◌, ◌≤◌, ◌<◌, length, MatchOption};
+// What stands in the slots: how many are used, the slot of a replica by its id, its head, the slot of an
+// entry by its key, and how many entries a directory has.
+//
+// A table is any bytes as long as one, not a `Table`: `changes::look::slot_of`, which looks up here, is promised for such.
+ghost use Rattle.std.specs.Prelude.{◌≡◌, ℕ, ◌≤◌, ◌<◌, length, MatchOption};
 ghost use Rattle.std.proofs.Math.Option.{none, some};
-ghost use Rattle.document.specs.Tables.{head_of, table_of, replicas_used, entries_used, entry_in, is_key};
-ghost use Rattle.table.specs.Slots.{first_replica, first_entry, entries_in};
+ghost use Rattle.document.specs.Tables.{head_of, table_of, used, replicas_used, entries_used, entry_in, is_key};
+ghost use Rattle.table.specs.Slots.{first_slot, first_replica, first_entry, entries_in};
 
+use crate::slot;
+use crate::slot::{Key, Keyed, Slot};
 use names::Name;
-use records::{Entry, Head};
+use records::Head;
+use slots::{Listed, Replica};
+
+// How many slots of a kind are used: the leading ones that start with its mark.
+fn used<S: Slot>(t: &[u8]) -> usize
+    requires { 13344 ≤ length t.now }
+    ensures { (result ≡ used S.First.MARK t.now S.FIRST S.SIZE S.COUNT) × (result ≤ S.COUNT) }
+{
+    (0..S::COUNT)
+        .take_while(|&i| slot::is_used::<S>(t, i))
+        .count()
+}
 
 // How many replica slots are used.
 pub fn replicas_used(t: &[u8]) -> usize
     requires { 13344 ≤ length t.now }
     ensures { (result ≡ replicas_used t.now) × (result ≤ 64) }
 {
-    let mut i = 0;
-    while i < 64 {
-        if !codec::is_marked(t, 32 + 48 * i, Head::MARK) {
-            return i;
-        }
-        i += 1;
-    }
-    i
+    used::<Replica>(t)
 }
 
 // How many entry slots are used.
@@ -28,14 +36,15 @@ pub fn entries_used(t: &[u8]) -> usize
     requires { 13344 ≤ length t.now }
     ensures { (result ≡ entries_used t.now) × (result ≤ 256) }
 {
-    let mut i = 0;
-    while i < 256 {
-        if !codec::is_marked(t, 3104 + 40 * i, Entry::MARK) {
-            return i;
-        }
-        i += 1;
-    }
-    i
+    used::<Listed>(t)
+}
+
+// The first of n slots of a kind that has the key.
+fn first<S: Keyed>(t: &[u8], n: usize, key: S::Key) -> Option<usize>
+    requires { (13344 ≤ length t.now) × (n ≤ S.COUNT) }
+    ensures { result ≡ first_slot (λ (i : ℕ). S.has_key t.now key i) 0 n }
+{
+    (0..n).find(|&i| S::has_key(t, i, key))
 }
 
 // The first of m replica slots that has the id.
@@ -43,29 +52,31 @@ pub fn replica(t: &[u8], m: usize, id: u32) -> Option<usize>
     requires { (13344 ≤ length t.now) × (m ≤ 64) }
     ensures { result ≡ first_replica t.now m id }
 {
-    let mut i = 0;
-    while i < m {
-        if codec::get_u32(t, 32 + 48 * i + 4) == id {
-            return Some(i);
-        }
-        i += 1;
-    }
-    None
+    first::<Replica>(t, m, id)
 }
 
-// Whether entry slot s has the key. Its fields are read only as far as they are needed.
+// The slot of the replica with the id, if it is held.
+pub fn slot_of(t: &[u8], id: u32) -> Option<usize>
+    requires { 13344 ≤ length t.now }
+    ensures { result ≡ first_replica t.now (replicas_used t.now) id }
+{
+    replica(t, replicas_used(t), id)
+}
+
+// Whether entry slot s has the key.
 pub fn has_key(t: &[u8], s: usize, directory: u32, child: u32, name: Name) -> bool
     requires { (13344 ≤ length t.now) × (s < 256) }
     ensures { result ≡ is_key directory child name (entry_in t.now s) }
 {
-    let o = 3104 + 40 * s;
-    if codec::get_u32(t, o + 32) != directory {
-        return false;
-    }
-    if codec::get_u32(t, o + 4) != child {
-        return false;
-    }
-    Name::read(t, o + 16).same(name)
+    Listed::has_key(
+        t,
+        s,
+        Key {
+            directory,
+            child,
+            name,
+        },
+    )
 }
 
 // The first of k entry slots that has the key.
@@ -73,14 +84,15 @@ pub fn entry(t: &[u8], k: usize, directory: u32, child: u32, name: Name) -> Opti
     requires { (13344 ≤ length t.now) × (k ≤ 256) }
     ensures { result ≡ first_entry t.now k directory child name }
 {
-    let mut i = 0;
-    while i < k {
-        if has_key(t, i, directory, child, name) {
-            return Some(i);
-        }
-        i += 1;
-    }
-    None
+    first::<Listed>(
+        t,
+        k,
+        Key {
+            directory,
+            child,
+            name,
+        },
+    )
 }
 
 // How many of k entry slots are listed in the directory.
@@ -88,15 +100,9 @@ pub fn entries_in(t: &[u8], k: usize, directory: u32) -> usize
     requires { (13344 ≤ length t.now) × (k ≤ 256) }
     ensures { result ≡ entries_in t.now k directory }
 {
-    let mut n = 0;
-    let mut i = 0;
-    while i < k {
-        if codec::get_u32(t, 3104 + 40 * i + 32) == directory {
-            n += 1;
-        }
-        i += 1;
-    }
-    n
+    (0..k)
+        .filter(|&i| slot::directory(t, i) == directory)
+        .count()
 }
 
 // The head of the replica with the id, if it is held.
@@ -104,6 +110,6 @@ pub fn head(t: &[u8], id: u32) -> Option<Head>
     requires { 13344 ≤ length t.now }
     ensures { MatchOption result (head_of (table_of t.now) id ≡ none) (λ h. head_of (table_of t.now) id ≡ some h) }
 {
-    let i = replica(t, replicas_used(t), id)?;
-    Some(Head::read(t, 32 + 48 * i))
+    let i = slot_of(t, id)?;
+    Some(slot::head(t, i))
 }

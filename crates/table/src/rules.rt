@@ -3,32 +3,31 @@
 // sentences that say what is unique, each is judged by one pass, where ids do not collide: a slot that
 // one slot names by an id or a key is found by hints, and entries are counted for all directories at
 // once.
-ghost use Rattle.std.specs.Prelude.{◌≡◌, true, ◌&&◌, ◌||◌, not, ℕ, ◌+◌, ◌≤◌, ◌<◌, eqb, leb, ltb, length};
+ghost use Rattle.std.specs.Prelude.{◌≡◌, true, ◌&&◌, ◌||◌, not, ℕ, ◌+◌, ◌-◌, ◌≤◌, ◌<◌, eqb, leb, ltb, length};
 ghost use Rattle.codec.specs.Bytes.{u8_at};
 ghost use Rattle.numbers.specs.Nodes.{has, without};
 ghost use Rattle.numbers.specs.Ids.{maker, count};
 ghost use Rattle.records.specs.Heads.{is_root};
 ghost use Rattle.document.specs.Tables.{every_slot, replica_in, entry_in};
 ghost use Rattle.document.specs.Sound.{is_root_id, is_live, is_place_of, held_and, is_parent, shows, maker_holds, is_part_of, replica_keeps, entry_keeps, rules};
-ghost use Rattle.table.specs.Rules.{table_at, held_in, listed_in, id_new, key_new, ids_new, keys_new, slots_keep};
-ghost use Rattle.table.specs.Counts.{entries_under, Counted};
+ghost use Rattle.table.specs.Rules.{table_at, held_in, listed_in, slots_keep};
+ghost use Rattle.table.specs.Counts.{Tallied};
 
-use crate::{counts, find, hints};
+use crate::counts::Tally;
+use crate::hints::Index;
+use crate::slot::{Key, Keyed};
+use crate::used::Used;
+use crate::{counts, slot};
+use codec::Stored;
 use numbers::{ids, nodes};
 use records::{Entry, Head};
-use slots::{Listed, Replica, TableHeader};
+use slots::{Listed, Replica, Table, TableHeader};
 
 // Whether holders include the maker and the own node; the root has no maker.
 fn holders_include(h: Head, own: u8) -> bool
     ensures { result ≡ (maker_holds h && has h.holders own) }
 {
-    if h.id == 0 {
-        return nodes::has(h.holders, own);
-    }
-    if !nodes::has(h.holders, ids::maker(h.id)) {
-        return false;
-    }
-    nodes::has(h.holders, own)
+    (h.id == 0 || nodes::has(h.holders, ids::maker(h.id))) && nodes::has(h.holders, own)
 }
 
 // Whether pending is within holders without the own node.
@@ -43,293 +42,149 @@ fn pending_within(pending: u8, holders: u8, own: u8) -> bool
 fn own_below_next(id: u32, own: u8, next: u32) -> bool
     ensures { result ≡ (not (eqb (maker id) own) || ltb (count id) next) }
 {
-    if ids::maker(id) != own {
-        return true;
-    }
-    ids::count(id) < next
-}
-
-// Whether a replica's place directory is held, is a directory, is one less deep, and live if the
-// replica is; the root has no place.
-fn place_held(t: &[u8], m: usize, index: &[u8; 256], h: Head) -> bool
-    requires { (13344 ≤ length t.now) × (m ≤ 64) × (ids_new t.now m ≡ true) }
-    ensures { result ≡ (is_root_id h || held_and (is_place_of h) (held_in t.now m h.directory)) }
-{
-    if h.id == 0 {
-        return true;
-    }
-    let found = hints::replica(t, m, index, h.directory);
-    let Some(p) = found else {
-        return false;
-    };
-    is_place_of(Head::read(t, 32 + 48 * p), h)
+    ids::maker(id) != own || ids::count(id) < next
 }
 
 // Whether p is a directory, one less deep than h, and live if h is.
 fn is_place_of(p: Head, h: Head) -> bool
     ensures { result ≡ is_place_of h p }
 {
-    if p.kind != 2 {
-        return false;
-    }
-    if p.depth as u32 + 1 != h.depth as u32 {
-        return false;
-    }
-    if h.live != 1 {
-        return true;
-    }
-    p.live == 1
+    p.is_directory()
+        && u32::from(p.depth) + 1 == u32::from(h.depth)
+        && (!h.is_live() || p.is_live())
 }
 
-// Whether a live replica but the root has an entry at its place with a stamp not below its own, and
-// live if equal. The hint is the slot to look at first for that entry.
-fn place_shown(t: &[u8], k: usize, hint: u8, h: Head) -> bool
-    requires { (13344 ≤ length t.now) × (k ≤ 256) × (keys_new t.now k ≡ true) }
-    ensures { result ≡ (not (is_live h) || (is_root_id h || shows h (listed_in t.now k h.directory h.id h.name))) }
+// Whether a replica's place directory is held, is a directory, is one less deep, and live if the
+// replica is; the root has no place.
+fn place_held(index: &Index, h: Head) -> bool
+    ensures { result ≡ (is_root_id h || held_and (is_place_of h) (held_in index.now.used.t.now index.now.used.replicas h.directory)) }
 {
-    if h.live != 1 {
-        return true;
-    }
-    if h.id == 0 {
-        return true;
-    }
-    let name = h.name;
-    let found = hints::entry(t, k, hint, h.directory, h.id, name);
-    let Some(e) = found else {
-        return false;
-    };
-    is_shown_by(Entry::read(t, 3104 + 40 * e), h.stamp)
+    h.id == 0 || index.head(h.directory).is_some_and(|p| is_place_of(p, h))
 }
 
 // Whether the entry has a stamp not below the given one, and is live if equal.
 fn is_shown_by(e: Entry, stamp: u64) -> bool
     ensures { result ≡ (leb stamp e.stamp && (not (eqb stamp e.stamp) || eqb e.live 1)) }
 {
-    if e.stamp < stamp {
-        return false;
-    }
-    if stamp != e.stamp {
-        return true;
-    }
-    e.live == 1
+    stamp <= e.stamp && (stamp != e.stamp || e.is_live())
 }
 
-// Whether the replica in slot s, in which as many entries are listed as count says, keeps all that a
-// replica has to keep.
-fn replica_keeps(
-    t: &[u8],
-    m: usize,
-    k: usize,
-    s: usize,
-    index: &[u8; 256],
-    count: u16,
-    hint: u8,
-) -> bool
-    requires { (13344 ≤ length t.now) × (m ≤ 64) × (k ≤ 256) × (s < m) × (ids_new t.now m ≡ true)
-        × (keys_new t.now k ≡ true) × (count ≡ entries_under t.now k s) }
-    ensures { result ≡ replica_keeps (table_at t.now m k) (replica_in t.now s) }
+// Whether a live replica but the root has an entry at its place with a stamp not below its own, and
+// live if equal. The hint is the slot to look at first for that entry.
+fn place_shown(index: &Index, hint: u8, h: Head) -> bool
+    ensures { result ≡ (not (is_live h) || (is_root_id h
+        || shows h (listed_in index.now.used.t.now index.now.used.entries h.directory h.id h.name))) }
 {
+    !h.is_live()
+        || h.id == 0
+        || index
+            .entry(hint, Key::of_place(h))
+            .is_some_and(|e| is_shown_by(e, h.stamp))
+}
+
+// Whether the replica in slot s keeps all that a replica has to keep.
+fn replica_keeps(index: &Index, s: usize, tallies: &[Tally; 64]) -> bool
+    requires { (s < index.now.used.replicas) × Tallied index.now.used.t.now index.now.used.replicas index.now.used.entries tallies.now }
+    ensures { result ≡ replica_keeps (table_at index.now.used.t.now index.now.used.replicas index.now.used.entries)
+        (replica_in index.now.used.t.now s) }
+{
+    let t = index.used.t;
     let header = TableHeader::read(t, 0);
-    let r = Replica::read(t, 32 + 48 * s);
+    let r = slot::replica(t, s);
     let h = r.head;
-    if !holders_include(h, header.own) {
-        return false;
-    }
-    if !pending_within(r.pending, h.holders, header.own) {
-        return false;
-    }
-    if !own_below_next(h.id, header.own, header.next) {
-        return false;
-    }
-    if !place_held(t, m, index, h) {
-        return false;
-    }
-    if 32 < count {
-        return false;
-    }
-    if !place_shown(t, k, hint, h) {
-        return false;
-    }
-    ids::clock_of(h.stamp) <= header.highest
+    let tally = tallies[s];
+    holders_include(h, header.own)
+        && pending_within(r.pending, h.holders, header.own)
+        && own_below_next(h.id, header.own, header.next)
+        && place_held(index, h)
+        && tally.count <= 32
+        && place_shown(index, tally.place, h)
+        && ids::clock_of(h.stamp) <= header.highest
 }
 
-// Whether each of m replicas keeps it.
-fn replicas_keep(
-    t: &[u8],
-    m: usize,
-    k: usize,
-    index: &[u8; 256],
-    counts: &[u16; 64],
-    places: &[u8; 64],
-) -> bool
-    requires { (13344 ≤ length t.now) × (m ≤ 64) × (k ≤ 256) × (ids_new t.now m ≡ true)
-        × (keys_new t.now k ≡ true) × Counted t.now m k counts.now }
-    ensures { result ≡ every_slot (λ (s : ℕ). replica_keeps (table_at t.now m k) (replica_in t.now s)) 0 m }
+// Whether each replica keeps it.
+fn replicas_keep(index: &Index, tallies: &[Tally; 64]) -> bool
+    requires { Tallied index.now.used.t.now index.now.used.replicas index.now.used.entries tallies.now }
+    ensures { result ≡ every_slot (λ (s : ℕ). replica_keeps (table_at index.now.used.t.now index.now.used.replicas index.now.used.entries)
+        (replica_in index.now.used.t.now s)) 0 index.now.used.replicas }
 {
-    let mut i = 0;
-    while i < m {
-        if !replica_keeps(t, m, k, i, index, counts[i], places[i]) {
-            return false;
-        }
-        i += 1;
-    }
-    true
+    (0..index.used.replicas).all(|s| replica_keeps(index, s, tallies))
 }
 
 // Whether a directory is held, is a directory and less than 16 deep.
-fn is_parent(t: &[u8], m: usize, index: &[u8; 256], directory: u32) -> bool
-    requires { (13344 ≤ length t.now) × (m ≤ 64) × (ids_new t.now m ≡ true) }
-    ensures { result ≡ held_and is_parent (held_in t.now m directory) }
+fn is_parent(index: &Index, directory: u32) -> bool
+    ensures { result ≡ held_and is_parent (held_in index.now.used.t.now index.now.used.replicas directory) }
 {
-    let found = hints::replica(t, m, index, directory);
-    let Some(p) = found else {
-        return false;
-    };
-    let h = Head::read(t, 32 + 48 * p);
-    if h.kind != 2 {
-        return false;
-    }
-    h.depth < 16
+    index
+        .head(directory)
+        .is_some_and(|h| h.is_directory() && h.depth < 16)
 }
 
 // Whether the entry in slot s keeps all that an entry has to keep.
-fn entry_keeps(t: &[u8], m: usize, k: usize, s: usize, index: &[u8; 256]) -> bool
-    requires { (13344 ≤ length t.now) × (m ≤ 64) × (k ≤ 256) × (s < k) × (ids_new t.now m ≡ true) }
-    ensures { result ≡ entry_keeps (table_at t.now m k) (entry_in t.now s) }
+fn entry_keeps(index: &Index, s: usize) -> bool
+    requires { s < index.now.used.entries }
+    ensures { result ≡ entry_keeps (table_at index.now.used.t.now index.now.used.replicas index.now.used.entries)
+        (entry_in index.now.used.t.now s) }
 {
+    let t = index.used.t;
     let header = TableHeader::read(t, 0);
-    let x = Listed::read(t, 3104 + 40 * s);
+    let x = slot::listed(t, s);
     let e = x.entry;
-    if !is_parent(t, m, index, x.directory) {
-        return false;
-    }
-    if e.child == 0 {
-        return false;
-    }
-    ids::clock_of(e.stamp) <= header.highest
+    is_parent(index, x.directory) && e.child != 0 && ids::clock_of(e.stamp) <= header.highest
 }
 
-// Whether each of k entries keeps it.
-fn entries_keep(t: &[u8], m: usize, k: usize, index: &[u8; 256]) -> bool
-    requires { (13344 ≤ length t.now) × (m ≤ 64) × (k ≤ 256) × (ids_new t.now m ≡ true) }
-    ensures { result ≡ every_slot (λ (s : ℕ). entry_keeps (table_at t.now m k) (entry_in t.now s)) 0 k }
+// Whether each entry keeps it.
+fn entries_keep(index: &Index) -> bool
+    ensures { result ≡ every_slot (λ (s : ℕ). entry_keeps (table_at index.now.used.t.now index.now.used.replicas index.now.used.entries)
+        (entry_in index.now.used.t.now s)) 0 index.now.used.entries }
 {
-    let mut i = 0;
-    while i < k {
-        if !entry_keeps(t, m, k, i, index) {
-            return false;
-        }
-        i += 1;
-    }
-    true
+    (0..index.used.entries).all(|s| entry_keeps(index, s))
 }
 
-// Whether no later slot has the id of replica slot s.
-fn id_is_new(t: &[u8], m: usize, s: usize) -> bool
-    requires { (13344 ≤ length t.now) × (m ≤ 64) × (s < m) }
-    ensures { result ≡ id_new t.now m s }
+// Whether no later slot has the key of slot i.
+fn is_new<S: Keyed>(t: &Table, n: usize, i: usize) -> bool
+    requires { (n ≤ S.Slot.COUNT) × (i < n) }
+    ensures { result ≡ every_slot (λ (j : ℕ). not (S.has_key t.now (S.key_in t.now i) j)) (i + 1) (n - (i + 1)) }
 {
-    let id = codec::get_u32(t, 32 + 48 * s + 4);
-    let mut i = s + 1;
-    while i < m {
-        if id == codec::get_u32(t, 32 + 48 * i + 4) {
-            return false;
-        }
-        i += 1;
-    }
-    true
+    let key = S::key(t, i);
+    (i + 1..n).all(|j| !S::has_key(t, j, key))
 }
 
-// Whether the ids of m replicas are unique.
-fn ids_unique(t: &[u8], m: usize) -> bool
-    requires { (13344 ≤ length t.now) × (m ≤ 64) }
-    ensures { result ≡ ids_new t.now m }
+// Whether the keys of n slots are unique.
+fn are_unique<S: Keyed>(t: &Table, n: usize) -> bool
+    requires { n ≤ S.Slot.COUNT }
+    ensures { result ≡ every_slot (λ (i : ℕ). every_slot (λ (j : ℕ). not (S.has_key t.now (S.key_in t.now i) j)) (i + 1) (n - (i + 1))) 0 n }
 {
-    let mut i = 0;
-    while i < m {
-        if !id_is_new(t, m, i) {
-            return false;
-        }
-        i += 1;
-    }
-    true
-}
-
-// Whether no later slot has the key of entry slot s.
-fn key_is_new(t: &[u8], k: usize, s: usize) -> bool
-    requires { (13344 ≤ length t.now) × (k ≤ 256) × (s < k) }
-    ensures { result ≡ key_new t.now k s }
-{
-    let x = Listed::read(t, 3104 + 40 * s);
-    let e = x.entry;
-    let name = e.name;
-    let mut i = s + 1;
-    while i < k {
-        if find::has_key(t, i, x.directory, e.child, name) {
-            return false;
-        }
-        i += 1;
-    }
-    true
-}
-
-// Whether directory, child and name together are unique among k entries.
-fn keys_unique(t: &[u8], k: usize) -> bool
-    requires { (13344 ≤ length t.now) × (k ≤ 256) }
-    ensures { result ≡ keys_new t.now k }
-{
-    let mut i = 0;
-    while i < k {
-        if !key_is_new(t, k, i) {
-            return false;
-        }
-        i += 1;
-    }
-    true
+    (0..n).all(|i| is_new::<S>(t, n, i))
 }
 
 // Whether the root stands in slot 0.
-fn root_first(t: &[u8], m: usize) -> bool
-    requires { (13344 ≤ length t.now) × (m ≤ 64) × (u8_at t.now 3 ≤ 8) }
-    ensures { result ≡ (ltb 0 m && is_root (table_at t.now m 0).nodes (replica_in t.now 0).head) }
+fn root_first(used: &Used) -> bool
+    requires { u8_at used.now.t.now 3 ≤ 8 }
+    ensures { result ≡ (ltb 0 used.now.replicas && is_root (table_at used.now.t.now used.now.replicas 0).nodes (replica_in used.now.t.now 0).head) }
 {
-    if m < 1 {
-        return false;
-    }
-    let n = codec::get_u8(t, 3);
-    Head::read(t, 32).is_root(n)
+    let t = used.t;
+    let n = u8::read(t, 3);
+    0 < used.replicas && slot::head(t, 0).is_root(n)
 }
 
-// Whether each of k entries and each of m replicas keeps what it has to keep. Entries come first: where
-// all their directories are held, no count has to pass the slots to find one.
-fn slots_keep(t: &[u8], m: usize, k: usize) -> bool
-    requires { (13344 ≤ length t.now) × (m ≤ 64) × (k ≤ 256) × (ids_new t.now m ≡ true)
-        × (keys_new t.now k ≡ true) }
-    ensures { result ≡ slots_keep t.now m k }
+// Whether each entry and each replica keeps what it has to keep. Entries come first: where all their
+// directories are held, no count has to pass the slots to find one.
+fn slots_keep(index: &Index) -> bool
+    ensures { result ≡ slots_keep index.now.used.t.now index.now.used.replicas index.now.used.entries }
 {
-    let index = hints::index_of(t, m);
-    if !entries_keep(t, m, k, &index) {
-        return false;
-    }
-    let counts = counts::of_entries(t, m, k, &index);
-    let places = hints::places_of(t, m, k, &index);
-    replicas_keep(t, m, k, &index, &counts, &places)
+    entries_keep(index) && replicas_keep(index, &counts::of_entries(index))
 }
 
-// Whether m replicas and k entries keep every rule. Ids and keys come first: what is looked up after
+// Whether the used slots of a table keep every rule. Ids and keys come first: what is looked up after
 // that relies on their being unique.
-pub fn keeps(t: &[u8], m: usize, k: usize) -> bool
-    requires { (13344 ≤ length t.now) × (m ≤ 64) × (k ≤ 256) × (u8_at t.now 3 ≤ 8) }
-    ensures { result ≡ rules (table_at t.now m k) }
+pub fn keeps(used: &Used) -> bool
+    requires { u8_at used.now.t.now 3 ≤ 8 }
+    ensures { result ≡ rules (table_at used.now.t.now used.now.replicas used.now.entries) }
 {
-    if !root_first(t, m) {
-        return false;
-    }
-    if !ids_unique(t, m) {
-        return false;
-    }
-    if !keys_unique(t, k) {
-        return false;
-    }
-    slots_keep(t, m, k)
+    let t = used.t;
+    root_first(used)
+        && are_unique::<Replica>(t, used.replicas)
+        && are_unique::<Listed>(t, used.entries)
+        && slots_keep(&Index::of(used))
 }

@@ -13,6 +13,7 @@
 
 mod acts;
 mod agree;
+mod cluster;
 mod moved;
 mod named;
 mod parted;
@@ -21,37 +22,25 @@ mod rounds;
 mod say;
 mod tree;
 
-ghost use Rattle.std.specs.Prelude.{◌≡◌, length};
-
+use acts::Tour;
+use cluster::Cluster;
 use std::io;
 
-// Prints how to read what follows.
-fn headline(rt: &impl Print) -> io::Result<()> {
-    say::text(
-        rt,
-        b"Three nodes share one tree: a tour in four scenes. A call changes the table of the\n\
-          node that makes it. Pushes then tell the other nodes that hold what was changed; each\n\
-          is pending until it is acknowledged. In a round each node in turn sends the others all\n\
-          that it has pending: \"1->2: 3\" says that node 1 sent three pushes to node 2, which took\n\
-          and acknowledged them, and \"Pending 4, 0, 1\" how many pushes are then pending at nodes\n\
-          1, 2 and 3. A new file changes its directory too, so it is two things to tell to each of\n\
-          the others, and a node passes on what it took in. Quiet is when none is pending. A stamp\n\
-          is 256 * clock + node. Each scene is a cluster of its own.\n",
-    )
-}
-
 fn main(rt: HostRuntime) -> io::Result<()> {
-    headline(&rt)?;
-    let mut cluster = tables();
-    moved::scene(&rt, &mut cluster)?;
-    removed::scene(&rt, &mut cluster)?;
-    named::scene(&rt, &mut cluster)?;
-    parted::scene(&rt, &mut cluster)
-}
-
-// Room for three tables. The `ensures` gives only the length, which lending the array needs.
-fn tables() -> [u8; 40032]
-    ensures { 40032 ≡ length result }
-{
-    [0; 40032]
+    print!(rt;
+        "Three nodes share one tree: a tour in four scenes. A call changes the table of the\n\
+         node that makes it. Pushes then tell the other nodes that hold what was changed; each\n\
+         is pending until it is acknowledged. In a round each node in turn sends the others all\n\
+         that it has pending: \"1->2: 3\" says that node 1 sent three pushes to node 2, which took\n\
+         and acknowledged them, and \"Pending 4, 0, 1\" how many pushes are then pending at nodes\n\
+         1, 2 and 3. A new file changes its directory too, so it is two things to tell to each of\n\
+         the others, and a node passes on what it took in. Quiet is when none is pending. A stamp\n\
+         is 256 * clock + node. Each scene is a cluster of its own.\n"
+    )?;
+    let cluster = Cluster::new();
+    let mut tour = Tour { rt: &rt, cluster };
+    moved::scene(&mut tour)?;
+    removed::scene(&mut tour)?;
+    named::scene(&mut tour)?;
+    parted::scene(&mut tour)
 }

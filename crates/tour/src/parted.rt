@@ -1,95 +1,50 @@
 // Scene 4: node 3 is cut off, both sides move the same file, and the link returns. A node that hears
 // nothing does not take that for an answer: a push stays pending until it is acknowledged.
-use crate::{acts, agree, rounds, say, tree};
+use crate::acts::Tour;
+use crate::say::Node::{One, Three, Two};
+use crate::say::Nodes;
+use crate::tree::ROOT;
+use changes::kind::Kind;
 use std::io;
 
 const DOCS: u32 = 16777217;
 
 const NOTE: u32 = 16777218;
 
-// Prints what the scene asks.
-fn headline(rt: &impl Print) -> io::Result<()> {
-    say::text(
-        rt,
-        b"\n\
-          Scene 4. Node 3 is cut off, and both sides move the same file: what happens when the\n\
-          link returns?\n",
+pub fn scene(tour: &mut Tour<'_, impl Print>) -> io::Result<()> {
+    print!(tour.rt;
+        "\n\
+         Scene 4. Node 3 is cut off, and both sides move the same file: what happens when the\n\
+         link returns?\n"
+    )?;
+    tour.start()?;
+    tour.create(One, 1, Kind::Directory, ROOT, "docs", Nodes::ALL)?;
+    tour.create(One, 2, Kind::File, DOCS, "note", Nodes::ALL)?;
+    tour.quiet(2)?;
+    part(tour)?;
+    tour.quiet(23)?;
+    tour.struck(One)?;
+    print!(tour.rt;
+        "  So: 5379, of node 3, is greater than 5121, of node 1. The file is /memo on every node,\n  \
+           though two of three had it at /docs/report, which is struck out. What either side made\n  \
+           meanwhile is on all of them.\n"
     )
 }
 
-// Prints that the link is cut.
-fn cut(rt: &impl Print) -> io::Result<()> {
-    say::text(rt, b"  The link to node 3 is cut.\n")
-}
-
-// Prints what the partition shows.
-fn remark(rt: &impl Print) -> io::Result<()> {
-    say::text(
-        rt,
-        b"  Nodes 1 and 2 agree with each other. What is for node 3, or from it, is sent again in\n  \
-          each round and lost; it stays pending, since nobody takes silence for an answer.\n  \
-          The link to node 3 is back.\n",
+// Node 3 is cut off: both sides move the file and go on, and what is sent meanwhile is lost.
+fn part(tour: &mut Tour<'_, impl Print>) -> io::Result<()> {
+    println!(tour.rt; "  The link to node 3 is cut.")?;
+    tour.rename(One, 20, NOTE, DOCS, "report")?;
+    tour.rename(Three, 21, NOTE, ROOT, "memo")?;
+    tour.create(Two, 22, Kind::File, DOCS, "list", Nodes::ALL)?;
+    tour.create(Three, 22, Kind::File, ROOT, "trip", Nodes::ALL)?;
+    for _ in 0..3 {
+        tour.round(22, Some(Three))?;
+    }
+    tour.show()?;
+    print!(tour.rt;
+        "  Nodes 1 and 2 agree with each other. What is for node 3, or from it, is sent again in\n  \
+           each round and lost; it stays pending, since nobody takes silence for an answer.\n  \
+           The link to node 3 is back.\n"
     )
-}
-
-// Prints what the scene shows.
-fn lesson(rt: &impl Print) -> io::Result<()> {
-    say::text(
-        rt,
-        b"  So: 5379, of node 3, is greater than 5121, of node 1. The file is /memo on every node,\n  \
-          though two of three had it at /docs/report, which is struck out. What either side made\n  \
-          meanwhile is on all of them.\n",
-    )
-}
-
-// All come to hold /docs/note.
-fn make(rt: &impl Print, c: &mut [u8; 40032]) -> io::Result<()> {
-    acts::create(rt, c, 1, 1, 0, 2, b"docs", 7)?;
-    acts::create(rt, c, 1, 2, DOCS, 1, b"note", 7)?;
-    rounds::quiet(rt, c, 2)
-}
-
-// Both sides move the file.
-fn move_note(rt: &impl Print, c: &mut [u8; 40032]) -> io::Result<()> {
-    acts::rename(rt, c, 1, 20, NOTE, DOCS, b"report")?;
-    acts::rename(rt, c, 3, 21, NOTE, 0, b"memo")
-}
-
-// Both sides go on.
-fn go_on(rt: &impl Print, c: &mut [u8; 40032]) -> io::Result<()> {
-    acts::create(rt, c, 2, 22, DOCS, 1, b"list", 7)?;
-    acts::create(rt, c, 3, 22, 0, 1, b"trip", 7)
-}
-
-// Rounds while node 3 is cut off: what goes to it or comes from it is lost, and stays pending.
-fn lose(rt: &impl Print, c: &mut [u8; 40032]) -> io::Result<()> {
-    rounds::round(rt, c, 22, true)?;
-    rounds::round(rt, c, 22, true)?;
-    rounds::round(rt, c, 22, true)?;
-    agree::show(rt, c)
-}
-
-// Node 3 is cut off.
-fn part(rt: &impl Print, c: &mut [u8; 40032]) -> io::Result<()> {
-    cut(rt)?;
-    move_note(rt, c)?;
-    go_on(rt, c)?;
-    lose(rt, c)?;
-    remark(rt)
-}
-
-// The link is back.
-fn meet(rt: &impl Print, c: &mut [u8; 40032]) -> io::Result<()> {
-    rounds::quiet(rt, c, 23)?;
-    tree::struck(rt, acts::table(c, 1))?;
-    lesson(rt)
-}
-
-// The scene.
-pub fn scene(rt: &impl Print, c: &mut [u8; 40032]) -> io::Result<()> {
-    headline(rt)?;
-    acts::start(rt, c)?;
-    make(rt, c)?;
-    part(rt, c)?;
-    meet(rt, c)
 }

@@ -1,99 +1,127 @@
-// Text and numbers to standard output; answers, stamps and sets of nodes in words.
+// How what is shown reads: nodes, sets of nodes, stamps, names, and what a call answers.
+ghost use Rattle.std.specs.Prelude.{◌≤◌};
+
 use answers::Answer;
-use std::io;
+use names::Name;
+use numbers::nodes;
+use std::fmt;
 
-// Prints the text.
-pub fn text(rt: &impl Print, s: &[u8]) -> io::Result<()> {
-    rt.write_all(s)
+// A node of the three.
+#[derive(Clone, Copy, PartialEq, Eq)]
+pub enum Node {
+    One = 1,
+    Two,
+    Three,
 }
 
-// Prints the number.
-pub fn number(rt: &impl Print, n: u64) -> io::Result<()> {
-    print!(rt; "{n}")
+impl Node {
+    pub const ALL: [Node; 3] = [Node::One, Node::Two, Node::Three];
 }
 
-// Prints a stamp, and its clock and node.
-pub fn stamp(rt: &impl Print, s: u64) -> io::Result<()> {
-    text(rt, b"stamp ")?;
-    number(rt, s)?;
-    text(rt, b" (clock ")?;
-    number(rt, s / 256)?;
-    text(rt, b", node ")?;
-    number(rt, s % 256)?;
-    text(rt, b")")
-}
+impl From<Node> for u8 {
+    ghost from_gives = { λ _ n. (1 ≤ n) × (n ≤ 3) };
 
-// Prints which of the three nodes are in the set.
-pub fn nodes(rt: &impl Print, set: u8) -> io::Result<()> {
-    match set {
-        1 => text(rt, b"node 1"),
-        2 => text(rt, b"node 2"),
-        3 => text(rt, b"nodes 1 and 2"),
-        4 => text(rt, b"node 3"),
-        5 => text(rt, b"nodes 1 and 3"),
-        6 => text(rt, b"nodes 2 and 3"),
-        7 => text(rt, b"nodes 1, 2 and 3"),
-        _ => text(rt, b"no set of these nodes"),
+    fn from(node: Node) -> u8 {
+        node as u8
     }
 }
 
-// Prints what the number of a refusal means, in document 01's words: 1 to 6, and the others below, by
-// sixes since the proof of a match grows with the square of its arms.
-fn refusal(rt: &impl Print, number: u32) -> io::Result<()> {
-    match number {
-        1 => text(rt, b"table not sound"),
-        2 => text(
-            rt,
-            b"node, N, set, kind or name outside its range; now above 2^40-1; push to oneself",
-        ),
-        3 => text(rt, b"output buffer too short"),
-        4 => text(rt, b"message malformed"),
-        5 => text(rt, b"not addressed to this node"),
-        6 => text(rt, b"an id named isn't held"),
-        _ => refusal_from_7(rt, number),
+impl From<Node> for u64 {
+    fn from(node: Node) -> u64 {
+        u64::from(u8::from(node))
     }
 }
 
-fn refusal_from_7(rt: &impl Print, number: u32) -> io::Result<()> {
-    match number {
-        7 => text(rt, b"it is dead"),
-        8 => text(rt, b"wrong kind, or removal of the root"),
-        9 => text(rt, b"a live entry there has that name"),
-        10 => text(rt, b"a live entry, or a held live child"),
-        11 => text(rt, b"the directory is 16 deep"),
-        12 => text(rt, b"the place directory isn't held"),
-        _ => refusal_from_13(rt, number),
+impl fmt::Display for Node {
+    fn fmt<W: fmt::Write>(&self, f: &mut fmt::Formatter<W>) -> fmt::Result {
+        let number = u8::from(*self);
+        write!(f, "{number}")
     }
 }
 
-fn refusal_from_13(rt: &impl Print, number: u32) -> io::Result<()> {
-    match number {
-        13 => text(rt, b"message against table"),
-        14 => text(rt, b"that node isn't pending"),
-        15 => text(rt, b"another version, or that node not pending"),
-        16 => text(
-            rt,
-            b"needs more than 64 replicas, 256 entries, or 32 in a directory",
-        ),
-        17 => text(rt, b"needs a clock, version or count past its end"),
-        _ => text(rt, b"no number of document 01"),
+// A set of nodes, as document 01 has it: bit i-1 for node i.
+#[derive(Clone, Copy, PartialEq, Eq)]
+pub struct Nodes(pub u8);
+
+impl Nodes {
+    pub const NONE: Nodes = Nodes(0);
+
+    pub const ALL: Nodes = Nodes(7);
+
+    // Whether the node is in the set.
+    pub fn has(self, node: Node) -> bool {
+        nodes::has(self.0, u8::from(node))
+    }
+
+    // The nodes of both sets.
+    pub fn join(self, other: Nodes) -> Nodes {
+        Nodes(nodes::join(self.0, other.0))
     }
 }
 
-// Prints whether a call was done, and the id if it made one; or the number that it was refused with,
-// and what that means.
-pub fn outcome(rt: &impl Print, answer: Answer) -> io::Result<()> {
-    if answer.number != 0 {
-        text(rt, b"refused, ")?;
-        number(rt, answer.number as u64)?;
-        text(rt, b" (")?;
-        refusal(rt, answer.number)?;
-        return text(rt, b")");
+// The set of the node alone.
+impl From<Node> for Nodes {
+    fn from(node: Node) -> Nodes {
+        Nodes(nodes::single(u8::from(node)))
     }
-    text(rt, b"done")?;
-    if answer.value != 0 {
-        text(rt, b", id ")?;
-        return number(rt, answer.value as u64);
+}
+
+impl fmt::Display for Nodes {
+    fn fmt<W: fmt::Write>(&self, f: &mut fmt::Formatter<W>) -> fmt::Result {
+        f.write_str(match self.0 {
+            0 => "no node",
+            1 => "node 1",
+            2 => "node 2",
+            3 => "nodes 1 and 2",
+            4 => "node 3",
+            5 => "nodes 1 and 3",
+            6 => "nodes 2 and 3",
+            7 => "nodes 1, 2 and 3",
+            _ => "nodes that are not in this cluster",
+        })
     }
-    Ok(())
+}
+
+// A stamp, with its clock and node.
+#[derive(Drop)]
+pub struct Stamp(pub u64);
+
+impl fmt::Display for Stamp {
+    fn fmt<W: fmt::Write>(&self, f: &mut fmt::Formatter<W>) -> fmt::Result {
+        let stamp = self.0;
+        write!(
+            f,
+            "stamp {stamp} (clock {}, node {})",
+            stamp / 256,
+            stamp % 256
+        )
+    }
+}
+
+// A name: its text, with any byte that is not of ASCII's letters and signs escaped.
+#[derive(Drop)]
+pub struct Text(pub Name);
+
+impl fmt::Display for Text {
+    fn fmt<W: fmt::Write>(&self, f: &mut fmt::Formatter<W>) -> fmt::Result {
+        let len = usize::from(self.0.len).min(15);
+        write!(f, "{}", self.0.bytes[..len].escape_ascii())
+    }
+}
+
+// What a call answered: that it is done, with the id if it made one, or why it was refused.
+#[derive(Drop)]
+pub struct Outcome(pub Answer);
+
+impl fmt::Display for Outcome {
+    fn fmt<W: fmt::Write>(&self, f: &mut fmt::Formatter<W>) -> fmt::Result {
+        match self.0 {
+            Ok(0) => f.write_str("done"),
+            Ok(id) => write!(f, "done, id {id}"),
+            Err(refusal) => {
+                let number = u32::from(refusal);
+                write!(f, "refused, {number} ({refusal})")
+            }
+        }
+    }
 }

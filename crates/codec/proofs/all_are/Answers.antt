@@ -1,21 +1,12 @@
--- `codec::all_are` meets its contract. The loop's invariant: all are v exactly if those from i on are.
--- Assumes nothing.
-use Rattle.std.specs.Prelude.{refl}
-use Rattle.std.proofs.Common.{sym, ◌∙◌, arith, eq-eqb, ne_eqb}
-use borrow.Author.Rules.{rules}
-use Rattle.codec.specs.Lists.{every_step, every_none}
+-- `codec::all_are` meets its contract: std's test on every byte. Assumes nothing.
+use Rattle.std.specs.Prelude.{ℕ, eqb}
+use Rattle.std.proofs.Common.{rules, tests, ◌∙◌}
+use Rattle.std.proofs.lemmas.Iterator.{YieldsList-from_slice}
+use Rattle.std.proofs.lemmas.Iterator.Search.{all_from_yields_List}
+use Rattle.codec.specs.Lists.{every_list_all}
 use Rattle.codec.proofs.all_are.Goals as goal
 
-pub loop-i-init : goal.loop-i-init
-loop-i-init c = (search rules, refl)
-
-pub returns-then-s-i : goal.returns-then-s-i
-returns-then-s-i c =
-    sym (c.loop-i.invariant.1 ∙ every_step _ _ 0 _ c.loop-i-test.true ∙ simp (ne_eqb _ _ c.if-s-i.true))
-
-pub loop-i-preserved : goal.loop-i-preserved
-loop-i-preserved c =
-    (omega arith, c.loop-i.invariant.1 ∙ every_step _ _ 0 _ c.loop-i-test.true ∙ simp (eq-eqb _ _ c.if-s-i.false))
-
 pub returns : goal.returns
-returns c = sym (c.loop-i.invariant.1 ∙ every_none _ _ _ c.loop-i-test.false)
+returns c =
+    all_from_yields_List (λ (b : ℕ). eqb b c.args.v) _ _ c.all.result c.all.ensures.ran (YieldsList-from_slice c.args.s.now cc) (λ x b q k. search (rules, tests))
+    ∙ every_list_all _ c.args.s.now

@@ -1,33 +1,30 @@
--- `table::is_sound` meets its contract: the ranges, then the rules. Assumes nothing.
-use Rattle.std.proofs.Common.{ap, sym, ◌∙◌, arith}
-use Rattle.std.specs.Prelude.{ℕ}
-use borrow.Author.Rules.{rules as known}
-use Rattle.codec.specs.Lists.{and_stop, and_go}
-use Rattle.document.specs.Tables.{replicas_used}
-use Rattle.document.specs.Sound.{sound_bytes, rules}
-use Rattle.table.specs.Ranges.{range_length, range_nodes}
-use Rattle.table.specs.Rules.{table_at, table_of_law}
+-- `table::is_sound` meets its contract: the length, the ranges, the rules. Assumes nothing.
+use Rattle.std.proofs.Common.{arith, sym, ◌∙◌}
+use Rattle.std.proofs.lemmas.Grind.{common_steps}
+use Rattle.codec.specs.Lists.{and_stop}
+use Rattle.document.specs.Sound.{sound_bytes}
+use Rattle.table.specs.Ranges.{range_nodes, range_other}
+use Rattle.table.specs.Rules.{sound_tests}
+use Rattle.table.specs.Tests.{and_ended, and_went}
 use Rattle.table.proofs.is_sound.Goals as goal
 
-pub returns-then-not-in_range : goal.returns-then-not-in_range
+pub returns-in_default : goal.returns-in_default
 unfolding sound_bytes
-returns-then-not-in_range c = and_stop _ _ (sym c.in_range.ensures ∙ c.if-not-in_range.true)
-
-pub replicas_used-requires : goal.replicas_used-requires
-replicas_used-requires c = omega (arith, range_length _ (sym c.in_range.ensures ∙ c.if-not-in_range.false))
-
-pub entries_used-requires : goal.entries_used-requires
-entries_used-requires c = omega (arith, range_length _ (sym c.in_range.ensures ∙ c.if-not-in_range.false))
+returns-in_default c = and_stop _ _ (range_other c.args.t.now (λ e. grind (arith, common_steps)))
 
 pub keeps-requires : goal.keeps-requires
-keeps-requires c =
-    let r = (sym c.in_range.ensures ∙ c.if-not-in_range.false) in
-    (omega (arith, range_length _ r), search known, search known, range_nodes _ r)
+keeps-requires c = range_nodes _ (sym c.in_range.ensures ∙ c.if-in_range.true)
 
-pub returns : goal.returns
-unfolding sound_bytes
-returns c =
-    let l = c.args.t.now in
-    and_go _ _ (sym c.in_range.ensures ∙ c.if-not-in_range.false)
-    (c.keeps.ensures ∙ ap (λ (m : ℕ). rules (table_at l m c.entries_used.result)) c.replicas_used.ensures.0
-    ∙ ap (λ (k : ℕ). rules (table_at l (replicas_used l) k)) c.entries_used.ensures.0 ∙ ap rules (sym (table_of_law l)))
+pub returns-then-in_range : goal.returns-then-in_range
+returns-then-in_range c =
+    let u = c.of-used.result in
+    let same = c.of-used.ensures ∙ c.in-Ok.ensures.1.same in
+    rw (← same, sound_tests u.t.now u.replicas u.entries u.replicas_are u.entries_are)
+    (and_went c.in_range.ensures c.if-in_range.true c.keeps.ensures)
+
+pub returns-else-in_range : goal.returns-else-in_range
+returns-else-in_range c =
+    let u = c.of-used.result in
+    let same = c.of-used.ensures ∙ c.in-Ok.ensures.1.same in
+    rw (← same, sound_tests u.t.now u.replicas u.entries u.replicas_are u.entries_are)
+    (and_ended _ c.in_range.ensures c.if-in_range.false)

@@ -1,39 +1,42 @@
 -- `changes::create::create_in` meets its contract. Assumes nothing.
-use Rattle.std.proofs.Common.{sym, ◌∙◌}
+use Rattle.std.proofs.Common.{sym, ◌∙◌, eqb-true}
+use Rattle.std.proofs.lemmas.Bool.{eqb-false}
+use Rattle.answers.specs.declared.refusal.Refusal.TheVariants.{Dead, WrongKind}
 use Rattle.answers.specs.Answers.{refuses, instead}
+use Rattle.answers.specs.Passing.{refuses_on}
 use Rattle.document.specs.Tables.{table_of}
-use Rattle.document.specs.Reading.{sound_length}
-use Rattle.changes.specs.Creating.{created_7, created_8, created_9, created_11, created_makes}
+use Rattle.changes.specs.Creating.{created_7, created_8, created_full, created_makes}
+use Rattle.changes.specs.Kinds.{kind_byte}
 use Rattle.changes.proofs.create.create_in.Goals as goal
 
-pub returns-then-p-ne1 : goal.returns-then-p-ne1
-returns-then-p-ne1 c = refuses _ (created_7 c.args.time c.args.kind c.args.name c.args.set (table_of c.args.table.now) c.args.p c.if-p-ne1.true)
-
-pub returns-then-p-ne2 : goal.returns-then-p-ne2
-returns-then-p-ne2 c = refuses _ (created_8 c.args.time c.args.kind c.args.name c.args.set (table_of c.args.table.now) c.args.p c.if-p-ne1.false c.if-p-ne2.true)
-
-pub entries_used-requires : goal.entries_used-requires
-entries_used-requires c = sound_length c.args.table.now c.requires.sound
-
-pub is_name_taken-requires : goal.is_name_taken-requires
-is_name_taken-requires c = (sound_length c.args.table.now c.requires.sound, c.entries_used.ensures.0)
-
-pub returns-then-is_name_taken : goal.returns-then-is_name_taken
-returns-then-is_name_taken c =
+pub returns-then-not-is_live : goal.returns-then-not-is_live
+returns-then-not-is_live c =
     let a = c.args in
-    refuses _ (created_9 a.time a.kind a.name a.set (table_of a.table.now) a.p c.if-p-ne1.false c.if-p-ne2.false (sym c.is_name_taken.ensures ∙ c.if-is_name_taken.true))
+    refuses Dead _ (created_7 a.time (kind_byte a.kind) a.name a.set (table_of a.table.now) a.p
+    (eqb-false _ 1 (sym c.is_live.ensures ∙ c.if-not-is_live.true)))
 
-pub returns-then-p-ge16 : goal.returns-then-p-ge16
-returns-then-p-ge16 c =
+pub returns-then-not-is_directory : goal.returns-then-not-is_directory
+returns-then-not-is_directory c =
     let a = c.args in
-    refuses _ (created_11 a.time a.kind a.name a.set (table_of a.table.now) a.p c.if-p-ne1.false c.if-p-ne2.false
-    (sym c.is_name_taken.ensures ∙ c.if-is_name_taken.false) c.if-p-ge16.true)
+    refuses WrongKind _ (created_8 a.time (kind_byte a.kind) a.name a.set (table_of a.table.now) a.p
+    (eqb-true _ 1 (sym c.is_live.ensures ∙ c.if-not-is_live.false))
+    (eqb-false _ 2 (sym c.is_directory.ensures ∙ c.if-not-is_directory.true)))
+
+pub returns-in_err-room_for : goal.returns-in_err-room_for
+returns-in_err-room_for c =
+    let a = c.args in
+    refuses_on _ c.in_err-room_for.field-0.0 c.from_residual.ensures.1 _
+    (created_full a.time (kind_byte a.kind) a.name a.set (table_of a.table.now) a.p
+    (eqb-true _ 1 (sym c.is_live.ensures ∙ c.if-not-is_live.false))
+    (eqb-true _ 2 (sym c.is_directory.ensures ∙ c.if-not-is_directory.false)) _ c.in_err-room_for.ensures)
 
 pub make-requires : goal.make-requires
-make-requires c = record { takes = c.requires; shallow = c.if-p-ge16.false }
+make-requires c = record { takes = c.requires; shallow = c.in_ok-room_for.ensures.1 }
 
 pub returns : goal.returns
 returns c =
     let a = c.args in
-    instead _ (sym (created_makes a.time a.kind a.name a.set (table_of a.table.now) a.p c.if-p-ne1.false c.if-p-ne2.false
-    (sym c.is_name_taken.ensures ∙ c.if-is_name_taken.false) c.if-p-ge16.false)) c.make.ensures
+    instead _ (sym (created_makes a.time (kind_byte a.kind) a.name a.set (table_of a.table.now) a.p
+    (eqb-true _ 1 (sym c.is_live.ensures ∙ c.if-not-is_live.false))
+    (eqb-true _ 2 (sym c.is_directory.ensures ∙ c.if-not-is_directory.false))
+    c.in_ok-room_for.ensures.0 c.in_ok-room_for.ensures.1)) c.make.ensures

@@ -1,24 +1,21 @@
 -- `changes::look::is_child` meets its contract. Assumes nothing.
-use Rattle.std.proofs.Common.{ap, sym, ◌∙◌, eq-eqb, ne_eqb}
-use Rattle.std.specs.Prelude.{ℕ, eqb, not}
+use Rattle.std.proofs.Common.{sym, ◌∙◌, eq-eqb, ne_eqb, refl}
 use Rattle.codec.specs.Lists.{and_stop, and_go}
-use Rattle.changes.specs.Looking.{child_test}
+use Rattle.changes.specs.Looking.{child_head}
 use Rattle.changes.proofs.look.is_child.Goals as goal
 
-pub returns-then-get_u32-directory : goal.returns-then-get_u32-directory
-returns-then-get_u32-directory c =
-    let a = c.args in
-    and_stop _ _ (ap (λ (z : ℕ). eqb z a.directory) (sym c.get_u32.ensures) ∙ ne_eqb _ _ c.if-get_u32-directory.true) ∙ sym (child_test a.t.now a.directory a.s)
+pub returns-then-is_live : goal.returns-then-is_live
+returns-then-is_live c =
+    and_go _ _ (eq-eqb _ _ c.if-h-directory.true) (and_go _ _ (sym c.is_live.ensures ∙ c.if-is_live.true) refl)
+    ∙ sym (child_head c.args.t.now c.args.directory c.args.s c.read-h.ensures)
 
-pub returns-then-get_u8-ne1 : goal.returns-then-get_u8-ne1
-returns-then-get_u8-ne1 c =
-    let a = c.args in
-    and_go _ _ (ap (λ (z : ℕ). eqb z a.directory) (sym c.get_u32.ensures) ∙ eq-eqb _ _ c.if-get_u32-directory.false)
-    (and_stop _ _ (ap (λ (z : ℕ). eqb z 1) (sym c.get_u8.ensures) ∙ ne_eqb _ _ c.if-get_u8-ne1.true)) ∙ sym (child_test a.t.now a.directory a.s)
+pub returns-else-is_live : goal.returns-else-is_live
+returns-else-is_live c =
+    c.if-is_live.false
+    ∙ and_go _ _ (eq-eqb _ _ c.if-h-directory.true) (and_stop _ _ (sym c.is_live.ensures ∙ c.if-is_live.false))
+    ∙ sym (child_head c.args.t.now c.args.directory c.args.s c.read-h.ensures)
 
-pub returns : goal.returns
-returns c =
-    let a = c.args in
-    and_go _ _ (ap (λ (z : ℕ). eqb z a.directory) (sym c.get_u32.ensures) ∙ eq-eqb _ _ c.if-get_u32-directory.false)
-    (and_go _ _ (ap (λ (z : ℕ). eqb z 1) (sym c.get_u8.ensures) ∙ eq-eqb _ _ c.if-get_u8-ne1.false)
-    (ap (λ (z : ℕ). not (eqb z 0)) c.get_u32-2.ensures)) ∙ sym (child_test a.t.now a.directory a.s)
+pub returns-else-h-directory : goal.returns-else-h-directory
+returns-else-h-directory c =
+    ne_eqb _ _ c.if-h-directory.false ∙ and_stop _ _ (ne_eqb _ _ c.if-h-directory.false)
+    ∙ sym (child_head c.args.t.now c.args.directory c.args.s c.read-h.ensures)

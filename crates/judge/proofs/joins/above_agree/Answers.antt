@@ -1,30 +1,12 @@
--- `judge::joins::above_agree` meets its contract. The loop's invariant: all agree exactly if those from j on do.
--- Assumes nothing.
-use Rattle.std.specs.Prelude.{refl}
-use Rattle.std.proofs.Common.{ap, sym, ◌∙◌, arith}
-use Rattle.codec.specs.Lists.{and_stop, and_go}
+-- `judge::joins::above_agree` meets its contract: a pass over the heads behind the first. Assumes nothing.
+use Rattle.std.proofs.Common.{rules, arith}
 use Rattle.document.specs.Tables.{table_of}
-use Rattle.table.specs.Slots.{slots_step, slots_none}
+use Rattle.document.specs.ReadingMessages.{head_in}
+use Rattle.table.specs.Passes.{every_ran}
 use Rattle.judge.specs.Judging.{made_agrees}
 use Rattle.judge.proofs.joins.above_agree.Goals as goal
 
-pub loop-j-init : goal.loop-j-init
-loop-j-init c =
-    (omega (arith, c.requires), refl)
-
-pub returns-then-not-made_agrees : goal.returns-then-not-made_agrees
-returns-then-not-made_agrees c =
-    let here =
-    c.made_agrees.ensures ∙ ap (made_agrees (table_of c.args.t.now)) c.read.ensures in
-    and_stop _ _ (sym here ∙ c.if-not-made_agrees.true) ∙ sym (c.loop-j.invariant.1 ∙ slots_step _ _ _ c.loop-j-test.true)
-
-pub loop-j-preserved : goal.loop-j-preserved
-loop-j-preserved c =
-    let here =
-    c.made_agrees.ensures ∙ ap (made_agrees (table_of c.args.t.now)) c.read.ensures in (
-      omega (arith, c.loop-j-test.true),
-      c.loop-j.invariant.1 ∙ slots_step _ _ _ c.loop-j-test.true ∙ sym (and_go _ _ (sym here ∙ c.if-not-made_agrees.false) refl),
-    )
-
 pub returns : goal.returns
-returns c = sym (c.loop-j.invariant.1 ∙ slots_none _ _ _ c.loop-j-test.false)
+returns c =
+    every_ran (λ j. made_agrees (table_of c.args.entries.now.t.now) (head_in c.args.message.now.bytes.now j)) _ _ _ _ _ c.all.ensures.ran (omega arith)
+    (λ x b q k. search rules)

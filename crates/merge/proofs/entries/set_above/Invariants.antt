@@ -5,8 +5,4 @@ use Rattle.merge.proofs.entries.set_above.Given as goal
 
 abbrev pub invariant-loop-j : goal.invariant-loop-j
 invariant-loop-j l =
-    Setting l.message (table_of l.old) (table_of l.initial.t) l.j l.t
-
-abbrev pub decreases-loop-j : goal.decreases-loop-j
-decreases-loop-j l =
-    l.j
+    Setting l.message.bytes.now (table_of l.old) (table_of l.initial.t) l.j l.t

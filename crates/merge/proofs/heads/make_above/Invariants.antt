@@ -5,8 +5,4 @@ use Rattle.merge.proofs.heads.make_above.Given as goal
 
 abbrev pub invariant-loop-j : goal.invariant-loop-j
 invariant-loop-j l =
-    Making l.message (table_of l.initial.t) l.j l.t
-
-abbrev pub decreases-loop-j : goal.decreases-loop-j
-decreases-loop-j l =
-    l.j
+    Making l.message.bytes.now (table_of l.initial.t) l.j l.t

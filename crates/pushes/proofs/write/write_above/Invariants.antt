@@ -1,6 +1,6 @@
 -- `pushes::write::write_above` meets its contract. The loop's invariant: what was written, with the heads from d on up
 -- behind it, is what is to be written. Assumes nothing.
-use Rattle.std.proofs.Common.{◌≡◌, ◌+◌, ◌*◌, ◌-◌, ◌≤◌, length}
+use Rattle.std.proofs.Common.{◌≡◌, ◌+◌, ◌*◌, ◌-◌, length}
 use Rattle.std.specs.Prelude.{List, ℕ}
 use Rattle.codec.specs.Bytes.{splice}
 use Rattle.records.specs.declared.head.Head.{Head}
@@ -14,11 +14,8 @@ abbrev pub left : List ℕ → ℕ → ℕ → ℕ → List Head
 left t most d i = chain_up (most - i) d (table_of t)
 
 abbrev pub invariant-loop-i : goal.invariant-loop-i
-invariant-loop-i l =
-    (l.i ≤ l.most) × (length l.out ≡ length l.initial.out)
-    × (l.i + length (left l.t l.most l.d l.i) ≡ length (chain_up l.most l.directory (table_of l.t)))
-    × (splice l.out (56 + 40 * l.i) (rows head_bytes (left l.t l.most l.d l.i))
-    ≡ splice l.initial.out 56 (rows head_bytes (chain_up l.most l.directory (table_of l.t))))
-
-abbrev pub decreases-loop-i : goal.decreases-loop-i
-decreases-loop-i l = l.most - l.i
+invariant-loop-i l = record {
+  count : l.i + length (left l.t l.fn.h.depth l.d l.i) ≡ length (chain_up l.fn.h.depth l.fn.h.directory (table_of l.t));
+  all : splice l.out (56 + 40 * l.i) (rows head_bytes (left l.t l.fn.h.depth l.d l.i))
+      ≡ splice l.initial.out 56 (rows head_bytes (chain_up l.fn.h.depth l.fn.h.directory (table_of l.t)));
+}

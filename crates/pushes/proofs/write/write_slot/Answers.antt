@@ -12,10 +12,10 @@ use Rattle.table.specs.Slots.{directory_at}
 use Rattle.pushes.specs.Writing.{listed_at, not_listed, is_listed_law}
 use Rattle.pushes.proofs.write.write_slot.Goals as goal
 
-pub returns-then-get_u32-directory : goal.returns-then-get_u32-directory
-returns-then-get_u32-directory c =
+pub returns-then-read-directory : goal.returns-then-read-directory
+returns-then-read-directory c =
     let a = c.args in
-    let none = not_listed a.t.now a.directory a.s (ne_eqb _ _ (λ e. c.if-get_u32-directory.true (c.get_u32.ensures ∙ sym (directory_at a.t.now a.s) ∙ e))) in
+    let none = not_listed a.t.now a.directory a.s (ne_eqb _ _ (λ e. c.if-read-directory.true (c.read.ensures ∙ sym (directory_at a.t.now a.s) ∙ e))) in
     (omega (arith, ap length none), rows_end entry_bytes a.out.now a.o none)
 
 pub write-requires : goal.write-requires
@@ -24,7 +24,7 @@ write-requires c =
     listed_at a.t.now a.directory a.s ≡ entry_at a.t.now (entry_slot a.s) ∷ [] =
     let a = c.args in
     is_listed_law a.t.now a.directory a.s
-    (eq-eqb _ _ (directory_at a.t.now a.s ∙ sym c.get_u32.ensures ∙ c.if-get_u32-directory.false)) in
+    (eq-eqb _ _ (directory_at a.t.now a.s ∙ sym c.read.ensures ∙ c.if-read-directory.false)) in
     omega (arith, ap length listed)
 
 pub returns : goal.returns
@@ -33,11 +33,11 @@ returns c =
     listed_at a.t.now a.directory a.s ≡ entry_at a.t.now (entry_slot a.s) ∷ [] =
     let a = c.args in
     is_listed_law a.t.now a.directory a.s
-    (eq-eqb _ _ (directory_at a.t.now a.s ∙ sym c.get_u32.ensures ∙ c.if-get_u32-directory.false)) in
+    (eq-eqb _ _ (directory_at a.t.now a.s ∙ sym c.read.ensures ∙ c.if-read-directory.false)) in
     let a = c.args in
     let one = listed in (
       omega (arith, ap length one),
       c.write.ensures
-          ∙ ap (λ (e : Entry). splice a.out.now a.o (entry_bytes e)) c.read-e.ensures
+          ∙ ap (λ (e : Entry). splice a.out.now a.o (entry_bytes e)) c.read-2.ensures
           ∙ ap (splice a.out.now a.o) (sym (ap (rows entry_bytes) one ∙ rows_one entry_bytes _)),
     )

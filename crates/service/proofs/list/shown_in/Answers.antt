@@ -1,32 +1,15 @@
--- `service::list::shown_in` meets its contract. The loop's invariant: of the first i slots n are shown.
--- Assumes nothing.
-use Rattle.std.proofs.Common.{◌≡◌, ap, sym, ◌∙◌, arith, length}
+-- `service::list::shown_in` meets its contract: a pass that counts. Assumes nothing.
+use Rattle.std.proofs.Common.{rules, tests}
 use Rattle.std.specs.Prelude.{ℕ}
-use borrow.Author.Rules.{rules}
-use Rattle.service.specs.Listing.{shown_in, shown_none, length_more, not_shown, is_shown_law}
-use Rattle.service.proofs.list.shown_in.Goals.{then-shows, else-shows}
+use Rattle.document.specs.Tables.{entry_in}
+use Rattle.table.specs.Passes.{count_ran}
+use Rattle.changes.specs.Looking.{is_shown_in}
+use Rattle.service.specs.Listing.{shown_most}
 use Rattle.service.proofs.list.shown_in.Goals as goal
-
-pub loop-i-init : goal.loop-i-init
-loop-i-init c =
-    (search rules, search rules, sym (ap length (shown_none c.args.t.now c.args.directory)))
-
-pub loop-i-preserved : goal.loop-i-preserved
-loop-i-preserved c =
-    let a = c.args in
-    let l = c.loop-i in
-    let more = length_more a.t.now a.directory l.i in
-    elim c.if-shows.branch [
-      | then-shows w ↦
-          let here = ap length (is_shown_law a.t.now a.directory l.i (sym c.shows.ensures ∙ w.if-shows.true)) in
-          (omega arith, omega arith, omega (arith, l.invariant.2))
-      | else-shows w ↦
-          let other = ap length (not_shown a.t.now a.directory l.i (sym c.shows.ensures ∙ w.if-shows.false)) in
-          (omega arith, omega arith, omega (arith, l.invariant.2))
-    ]
 
 pub returns : goal.returns
 returns c =
     let a = c.args in
-    let all : c.loop-i.i ≡ a.k = omega arith in
-    (c.loop-i.invariant.2 ∙ ap (λ (i : ℕ). length (shown_in a.t.now a.directory i)) all, omega arith)
+    shown_most a.t.now a.directory a.k
+    (count_ran (λ (i : ℕ). is_shown_in a.directory (entry_in a.t.now i)) _ _ _ _ c.count.ensures.ran c.filter.ensures.source c.filter.ensures.closure
+    (λ x b q k. search (rules, tests)))

@@ -9,7 +9,16 @@ use Rattle.service.specs.Pending.{sum_step, sum_none, pending_at, members_most}
 use Rattle.service.proofs.pending.pending_bits.Goals as goal
 
 pub loop-i-init : goal.loop-i-init
-loop-i-init c = (search rules, search rules, simp sub-zero (omega arith))
+loop-i-init c = (search rules, simp sub-zero (omega arith))
+
+pub overflow_add-n : goal.overflow_add-n
+overflow_add-n c =
+    let l = c.loop-i in
+    let g = replica_in c.args.t.now in
+    let bits : c.size.result ≡ size (g l.i).pending =
+    c.size.ensures ∙ ap size (c.read.ensures ∙ sym (pending_at c.args.t.now l.i)) in
+    let most = members_most 8 (g l.i).pending in
+    omega (arith, l.invariant.0, c.loop-i-test.true, bits, most)
 
 pub loop-i-preserved : goal.loop-i-preserved
 loop-i-preserved c =
@@ -17,10 +26,10 @@ loop-i-preserved c =
     let g = replica_in c.args.t.now in
     let step = sum_step g c.args.m l.i c.loop-i-test.true in
     let bits : c.size.result ≡ size (g l.i).pending =
-    c.size.ensures ∙ ap size (c.get_u8.ensures ∙ sym (pending_at c.args.t.now l.i)) in
+    c.size.ensures ∙ ap size (c.read.ensures ∙ sym (pending_at c.args.t.now l.i)) in
     let most = members_most 8 (g l.i).pending in
-    (omega arith, omega (arith, l.invariant.1), omega (arith, l.invariant.2))
+    (omega (arith, l.invariant.0), omega (arith, l.invariant.1))
 
 pub returns : goal.returns
 returns c =
-    omega (arith, c.loop-i.invariant.2, sum_none (replica_in c.args.t.now) _ _ c.loop-i-test.false)
+    omega (arith, c.loop-i.invariant.1, sum_none (replica_in c.args.t.now) _ _ c.loop-i-test.false)

@@ -7,7 +7,4 @@ use Rattle.service.proofs.pending.pending_bits.Given as goal
 
 abbrev pub invariant-loop-i : goal.invariant-loop-i
 invariant-loop-i l =
-    (l.i ≤ l.m) × (l.n ≤ 8 * l.i) × (pending_sum (slots_from (replica_in l.t) 0 l.m) ≡ l.n + pending_sum (slots_from (replica_in l.t) l.i (l.m - l.i)))
-
-abbrev pub decreases-loop-i : goal.decreases-loop-i
-decreases-loop-i l = l.m - l.i
+    (l.n ≤ 8 * l.i) × (pending_sum (slots_from (replica_in l.t) 0 l.m) ≡ l.n + pending_sum (slots_from (replica_in l.t) l.i (l.m - l.i)))

@@ -9,11 +9,11 @@ use Rattle.service.proofs.receive.acknowledge.Goals as goal
 pub read-header-requires : goal.read-header-requires
 read-header-requires c = omega (arith, c.requires.0)
 
-pub get_u32-requires : goal.get_u32-requires
-get_u32-requires c = omega (arith, c.requires.0)
+pub read-requires : goal.read-requires
+read-requires c = omega (arith, c.requires.0)
 
 pub write-requires : goal.write-requires
 write-requires c = omega (arith, c.requires.1)
 
 pub returns : goal.returns
-returns c = c.write.ensures ∙ ap (λ (a : Acknowledgement). splice c.args.out.now 0 (ack_bytes a)) (ack_is c.args.message.now c.read-header.ensures c.get_u32.ensures)
+returns c = c.write.ensures ∙ ap (λ (a : Acknowledgement). splice c.args.out.now 0 (ack_bytes a)) (ack_is c.args.message.now c.read-header.ensures c.read.ensures)

@@ -1,53 +1,23 @@
--- `service::receive::receive` meets its contract: 1, 2, 3, 4, and then the push is taken. Assumes nothing.
-use Rattle.std.proofs.Common.{arith, ap, sym, ◌∙◌, length}
-use Rattle.std.specs.Prelude.{ℕ}
-use Rattle.document.specs.Reading.{sound_length}
-use Rattle.table.specs.Ranges.{nodes_at}
-use Rattle.pushes.specs.Judging.{is_push}
-use Rattle.answers.specs.Answers.{not_sound}
-use Rattle.changes.specs.Working.{nodes_few}
-use Rattle.service.specs.Receiving.{refused_parts, received_parts, receives, call_2, call_3, call_4, call_takes}
+-- `service::receive::receive` meets its contract. Assumes nothing.
+use Rattle.std.proofs.Common.{ap, subst, ◌∙◌}
+use Rattle.std.specs.Prelude.{List, ℕ}
+use Rattle.document.specs.Sound.{sound_bytes}
+use Rattle.answers.specs.Passing.{refused_parts_on, unsound}
+use Rattle.answers.specs.Forms.{Answered}
+use Rattle.service.specs.Promises.{ReceivePromise}
+use Rattle.service.specs.Judging.{lent, not_lent}
 use Rattle.service.proofs.receive.receive.Goals as goal
 
-pub returns-then-not-is_sound : goal.returns-then-not-is_sound
-returns-then-not-is_sound c = refused_parts _ _ (not_sound c.args.table.now _ (sym c.is_sound.ensures ∙ c.if-not-is_sound.true))
+pub returns-in_err-table : goal.returns-in_err-table
+returns-in_err-table c =
+    refused_parts_on _ c.in_err-table.field-0.0 c.from_residual.ensures.1 _ _ (unsound c.args.table.now _ _ (not_lent _ _ c.sound.ensures.cases c.in_err-table.ensures.value c.in_err-table.ensures.ok_part))
 
-pub returns-then-time-gt1099511627775 : goal.returns-then-time-gt1099511627775
-returns-then-time-gt1099511627775 c =
-    let a = c.args in
-    refused_parts _ _ (call_2 a.table.now a.time a.message.now (length a.out.now) (sym c.is_sound.ensures ∙ c.if-not-is_sound.false) c.if-time-gt1099511627775.true)
-
-pub returns-then-out-lt-SIZE : goal.returns-then-out-lt-SIZE
-returns-then-out-lt-SIZE c =
-    let a = c.args in
-    refused_parts _ _ (call_3 a.table.now a.time a.message.now (length a.out.now)
-    (sym c.is_sound.ensures ∙ c.if-not-is_sound.false) c.if-time-gt1099511627775.false c.if-out-lt-SIZE.true)
-
-pub get_u8-requires : goal.get_u8-requires
-get_u8-requires c = omega (arith, sound_length c.args.table.now (sym c.is_sound.ensures ∙ c.if-not-is_sound.false))
-
-pub is_push-requires : goal.is_push-requires
-is_push-requires c = omega (arith, c.get_u8.ensures, nodes_at c.args.table.now, nodes_few c.args.table.now (sym c.is_sound.ensures ∙ c.if-not-is_sound.false))
-
-pub returns-then-not-is_push : goal.returns-then-not-is_push
-returns-then-not-is_push c =
-    let a = c.args in
-    refused_parts _ _ (call_4 a.table.now a.time a.message.now (length a.out.now)
-    (sym c.is_sound.ensures ∙ c.if-not-is_sound.false) c.if-time-gt1099511627775.false c.if-out-lt-SIZE.false
-    (ap (λ (n : ℕ). is_push n a.message.now) (sym (c.get_u8.ensures ∙ nodes_at a.table.now)) ∙ (sym c.is_push.ensures ∙ c.if-not-is_push.true)))
-
-pub take-requires : goal.take-requires
-take-requires c =
-    let a = c.args in
-    (receives a.table.now a.time a.message.now (length a.out.now)
-    (sym c.is_sound.ensures ∙ c.if-not-is_sound.false) c.if-time-gt1099511627775.false c.if-out-lt-SIZE.false
-    (ap (λ (n : ℕ). is_push n a.message.now) (sym (c.get_u8.ensures ∙ nodes_at a.table.now)) ∙ (sym c.is_push.ensures ∙ c.if-not-is_push.false)))
+pub judge-requires : goal.judge-requires
+judge-requires c =
+    let s = lent _ _ c.sound.ensures.cases c.in_ok-table.ensures.ok_part in
+    ap (λ (l : List ℕ). sound_bytes l) s.0 ∙ s.1
 
 pub returns : goal.returns
 returns c =
-    let a = c.args in
-    received_parts _ _ (call_takes a.table.now a.time a.message.now (length a.out.now) (sym c.is_sound.ensures ∙ c.if-not-is_sound.false)
-    (receives a.table.now a.time a.message.now (length a.out.now)
-    (sym c.is_sound.ensures ∙ c.if-not-is_sound.false) c.if-time-gt1099511627775.false c.if-out-lt-SIZE.false
-    (ap (λ (n : ℕ). is_push n a.message.now) (sym (c.get_u8.ensures ∙ nodes_at a.table.now)) ∙
-    (sym c.is_push.ensures ∙ c.if-not-is_push.false)))) c.take.ensures
+    subst (λ (l : List ℕ). ReceivePromise Answered l c.args.time c.args.message.now c.args.out.now c.judge.result c.judge.new.table c.judge.new.out)
+    (lent _ _ c.sound.ensures.cases c.in_ok-table.ensures.ok_part).0 c.judge.ensures

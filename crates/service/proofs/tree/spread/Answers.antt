@@ -1,13 +1,21 @@
 -- `service::tree::spread` meets its contract. Assumes nothing.
-use Rattle.std.proofs.Common.{sym, ◌∙◌}
-use Rattle.answers.specs.Answers.{not_sound, is_sound, refuses, instead}
+use Rattle.std.proofs.Common.{ap, ◌∙◌}
+use Rattle.std.specs.Prelude.{List, ℕ}
+use Rattle.document.specs.Sound.{sound_bytes}
+use Rattle.answers.specs.Passing.{opened, refuses_on, unsound}
+use Rattle.service.specs.Judging.{lent, not_lent}
 use Rattle.service.proofs.tree.spread.Goals as goal
 
-pub returns-then-not-is_sound : goal.returns-then-not-is_sound
-returns-then-not-is_sound c = refuses _ (not_sound c.args.table.now _ (sym c.is_sound.ensures ∙ c.if-not-is_sound.true))
+pub returns-in_err-table : goal.returns-in_err-table
+returns-in_err-table c =
+    refuses_on _ c.in_err-table.field-0.0 c.from_residual.ensures.1 _ (unsound c.args.table.now _ _ (not_lent _ _ c.sound.ensures.cases c.in_err-table.ensures.value c.in_err-table.ensures.ok_part))
 
 pub spread-requires : goal.spread-requires
-spread-requires c = (sym c.is_sound.ensures ∙ c.if-not-is_sound.false)
+spread-requires c =
+    let s = lent _ _ c.sound.ensures.cases c.in_ok-table.ensures.ok_part in
+    ap (λ (l : List ℕ). sound_bytes l) s.0 ∙ s.1
 
 pub returns : goal.returns
-returns c = instead _ (sym (is_sound c.args.table.now _ (sym c.is_sound.ensures ∙ c.if-not-is_sound.false))) c.spread.ensures
+returns c =
+    let s = lent _ _ c.sound.ensures.cases c.in_ok-table.ensures.ok_part in
+    opened _ s.0 s.1 _ c.spread.ensures

@@ -11,21 +11,21 @@ pub returns-then-m-eq64 : goal.returns-then-m-eq64
 returns-then-m-eq64 c =
     let k = c.requires in
     let f : HeadFit c.args.h = record { id = search rules; stamp = search rules; directory = search rules; bytes = search rules } in
-    (put_full k.stands (λ n. (c.slice_known-1.given n).fits) c.args.h f c.args.m k.used k.absent c.if-m-eq64.true, λ e. never e)
+    (put_full k.stands c.fits-t c.args.h f c.replicas_used-m.result c.replicas_used-m.ensures.0 k.absent c.if-m-eq64.true, λ e. never e)
 
 pub overflow_mul-m : goal.overflow_mul-m
-overflow_mul-m c = omega (arith, c.requires.used, few_replicas c.args.t.now)
+overflow_mul-m c = omega (arith, c.replicas_used-m.ensures.0, few_replicas c.args.t.now)
 
 pub overflow_add-m : goal.overflow_add-m
-overflow_add-m c = omega (arith, c.requires.used, few_replicas c.args.t.now)
+overflow_add-m c = omega (arith, c.replicas_used-m.ensures.0, few_replicas c.args.t.now)
 
 pub write-requires : goal.write-requires
-write-requires c = omega (arith, c.requires.used, c.requires.stands.size, few_replicas c.args.t.now)
+write-requires c = omega (arith, c.replicas_used-m.ensures.0, c.requires.stands.size, few_replicas c.args.t.now)
 
 pub returns : goal.returns
 returns c =
     let k = c.requires in
     let f : HeadFit c.args.h = record { id = search rules; stamp = search rules; directory = search rules; bytes = search rules } in
     let few = few_replicas c.args.t.now in
-    let p = put_next k.stands (λ n. (c.slice_known-1.given n).fits) c.args.h f c.args.m k.used k.absent (omega (arith, k.used)) in
+    let p = put_next k.stands c.fits-t c.args.h f c.replicas_used-m.result c.replicas_used-m.ensures.0 k.absent (omega (arith, c.replicas_used-m.ensures.0)) in
     (p.0, λ _. moved p.1 c.write.ensures)

@@ -9,8 +9,8 @@ use Rattle.steps.proofs.state.draw.Goals as goal
 pub read-old-requires : goal.read-old-requires
 read-old-requires c = omega (arith, c.requires.0.size)
 
-pub tick-ticked-requires : goal.tick-ticked-requires
-tick-ticked-requires c =
+pub tick-highest-requires : goal.tick-highest-requires
+tick-highest-requires c =
     let h : c.read-old.result ≡ header_of (table_of c.args.t.now) = c.read-old.ensures ∙ header_read c.args.t.now in
     (omega (arith, c.requires.1, ap (λ (z : TableHeader). z.highest) h), c.requires.2)
 
@@ -20,5 +20,5 @@ write-requires c = omega (arith, c.requires.0.size)
 pub returns : goal.returns
 returns c =
     let h : c.read-old.result ≡ header_of (table_of c.args.t.now) = c.read-old.ensures ∙ header_read c.args.t.now in
-    let q = drawn c.requires.0 (λ n. (c.slice_known-1.given n).fits) c.args.time c.requires.1 c.requires.2 h c.tick-ticked.ensures in
+    let q = drawn c.requires.0 c.fits-t c.args.time c.requires.1 c.requires.2 h c.tick-highest.ensures in
     (q.0, moved q.1 c.write.ensures)

@@ -27,5 +27,5 @@ pub returns : goal.returns
 returns c =
     let h : c.read-old.result ≡ header_of (table_of c.args.t.now) = c.read-old.ensures ∙ header_read c.args.t.now in (
       c.id_of.ensures ∙ ap (λ (z : TableHeader). id_of z.own z.next) h,
-      moved (counted c.requires.0 (λ n. (c.slice_known-1.given n).fits) c.requires.2 h) c.write.ensures,
+      moved (counted c.requires.0 c.fits-t c.requires.2 h) c.write.ensures,
     )

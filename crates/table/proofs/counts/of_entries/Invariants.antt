@@ -1,11 +1,7 @@
--- `table::counts::of_entries` meets its contract. The loop's invariant: the counts are those of the first i entries.
+-- `table::counts::of_entries` meets its contract. The loop's invariant: the tallies are of the first e entries.
 -- Assumes nothing.
-use Rattle.std.proofs.Common.{◌-◌, ◌≤◌}
-use Rattle.table.specs.Counts.{Counted}
+use Rattle.table.specs.Counts.{Tallied}
 use Rattle.table.proofs.counts.of_entries.Given as goal
 
-abbrev pub invariant-loop-i : goal.invariant-loop-i
-invariant-loop-i l = (l.i ≤ l.k) × Counted l.t l.m l.i l.counts
-
-abbrev pub decreases-loop-i : goal.decreases-loop-i
-decreases-loop-i l = l.k - l.i
+abbrev pub invariant-loop-e : goal.invariant-loop-e
+invariant-loop-e l = Tallied l.index.used.t.now l.index.used.replicas l.e l.tallies

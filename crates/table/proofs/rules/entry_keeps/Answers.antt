@@ -1,33 +1,15 @@
--- `table::rules::entry_keeps` meets its contract: sentence by sentence, in the order of the definition.
---  Assumes nothing.
-use Rattle.std.proofs.Common.{ap, sym, ◌∙◌, eq-eqb, ne_eqb}
-use Rattle.std.specs.Prelude.{ℕ, not, leb}
-use Rattle.codec.specs.Lists.{and_go, and_stop}
+-- `table::rules::entry_keeps` meets its contract: sentence by sentence, in the order of the definition. Assumes nothing.
+use Rattle.std.proofs.Common.{arith}
+use Rattle.std.proofs.lemmas.Grind.{common_steps}
 use Rattle.table.specs.Rules.{entry_tests}
 use Rattle.table.proofs.rules.entry_keeps.Goals as goal
 
-pub returns-then-not-is_parent : goal.returns-then-not-is_parent
-returns-then-not-is_parent c =
-    and_stop _ _ (sym c.is_parent.ensures ∙ c.if-not-is_parent.true) ∙ sym (entry_tests c.args.t.now
-    c.args.m c.args.k
-    c.args.s c.read-header.result
-    c.read-x.result c.read-header.ensures c.read-x.ensures)
+pub returns-then-e-ne0 : goal.returns-then-e-ne0
+returns-then-e-ne0 c =
+    let u = c.args.index.now.used in
+    rw (entry_tests u.t.now u.replicas u.entries c.args.s _ _ c.read-header.ensures c.listed-x.ensures) (grind (arith, common_steps))
 
-pub returns-then-e-eq0 : goal.returns-then-e-eq0
-returns-then-e-eq0 c =
-    and_go _ _ (sym c.is_parent.ensures ∙ c.if-not-is_parent.false) (and_stop
-    _ _ (ap not (eq-eqb _ _ c.if-e-eq0.true))) ∙ sym (entry_tests c.args.t.now
-    c.args.m c.args.k
-    c.args.s c.read-header.result
-    c.read-x.result c.read-header.ensures
-    c.read-x.ensures)
-
-pub returns : goal.returns
-returns c =
-    and_go _ _ (sym c.is_parent.ensures ∙ c.if-not-is_parent.false)
-    (and_go _ _ (ap not (ne_eqb _ _ c.if-e-eq0.false)) (ap (λ (k : ℕ). leb k c.read-header.result.highest)
-    c.clock_of.ensures)) ∙ sym (entry_tests c.args.t.now
-    c.args.m c.args.k
-    c.args.s c.read-header.result
-    c.read-x.result c.read-header.ensures
-    c.read-x.ensures)
+pub returns-else-e-ne0 : goal.returns-else-e-ne0
+returns-else-e-ne0 c =
+    let u = c.args.index.now.used in
+    rw (entry_tests u.t.now u.replicas u.entries c.args.s _ _ c.read-header.ensures c.listed-x.ensures) (grind (arith, common_steps))

@@ -1,27 +1,13 @@
--- `table::rules::replicas_keep` meets its contract. The loop's invariant: all do exactly if those from i on do. Assumes nothing.
-use Rattle.std.specs.Prelude.{refl}
-use Rattle.std.proofs.Common.{sym, ◌∙◌, arith}
-use native.Mathlib.Nat.{sub-zero}
-use borrow.Author.Rules.{rules}
-use Rattle.codec.specs.Lists.{and_stop, and_go}
-use Rattle.table.specs.Slots.{slots_step, slots_none}
+-- `table::rules::replicas_keep` meets its contract: a pass over the replicas. Assumes nothing.
+use Rattle.std.proofs.Common.{rules, tests, arith}
+use Rattle.document.specs.Tables.{replica_in}
+use Rattle.document.specs.Sound.{replica_keeps}
+use Rattle.table.specs.Passes.{every_ran}
+use Rattle.table.specs.Rules.{table_at}
 use Rattle.table.proofs.rules.replicas_keep.Goals as goal
 
-pub loop-i-init : goal.loop-i-init
-loop-i-init c = (search rules, simp sub-zero)
-
-pub replica_keeps-requires : goal.replica_keeps-requires
-replica_keeps-requires c =
-    (search rules, search rules, search rules, search rules, search rules, search rules, c.requires.5.1 _ c.loop-i-test.true)
-
-pub returns-then-not-replica_keeps : goal.returns-then-not-replica_keeps
-returns-then-not-replica_keeps c =
-    and_stop _ _ (sym c.replica_keeps.ensures ∙ c.if-not-replica_keeps.true)
-    ∙ sym (c.loop-i.invariant.1 ∙ slots_step _ _ _ c.loop-i-test.true)
-
-pub loop-i-preserved : goal.loop-i-preserved
-loop-i-preserved c =
-    (omega arith, c.loop-i.invariant.1 ∙ slots_step _ _ _ c.loop-i-test.true ∙ sym (and_go _ _ (sym c.replica_keeps.ensures ∙ c.if-not-replica_keeps.false) refl))
-
 pub returns : goal.returns
-returns c = sym (c.loop-i.invariant.1 ∙ slots_none _ _ _ c.loop-i-test.false)
+returns c =
+    let u = c.args.index.now.used in
+    every_ran (λ s. replica_keeps (table_at u.t.now u.replicas u.entries) (replica_in u.t.now s)) _ _ _ _ _ c.all.ensures.ran (omega arith)
+    (λ x b q k. search (rules, tests))

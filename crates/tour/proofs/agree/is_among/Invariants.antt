@@ -1,9 +1,0 @@
--- `tour::agree::is_among` ends: j rises to m.
-use Rattle.std.proofs.Common.{◌-◌, ◌≤◌}
-use Rattle.tour.proofs.agree.is_among.Given as goal
-
-abbrev pub invariant-loop-j : goal.invariant-loop-j
-invariant-loop-j l = l.j ≤ l.m
-
-abbrev pub decreases-loop-j : goal.decreases-loop-j
-decreases-loop-j l = l.m - l.j

@@ -1,9 +1,0 @@
--- `tour::agree::rows_agree` ends: i rises to n.
-use Rattle.std.proofs.Common.{◌-◌, ◌≤◌}
-use Rattle.tour.proofs.agree.rows_agree.Given as goal
-
-abbrev pub invariant-loop-i : goal.invariant-loop-i
-invariant-loop-i l = l.i ≤ l.n
-
-abbrev pub decreases-loop-i : goal.decreases-loop-i
-decreases-loop-i l = l.n - l.i
