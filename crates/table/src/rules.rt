@@ -102,7 +102,7 @@ fn replica_keeps(index: &Index, s: usize, tallies: &[Tally; 64]) -> bool
         && ids::clock_of(h.stamp) <= header.highest
 }
 
-// Whether each replica keeps it.
+// Whether each replica keeps it. This and its twin for entries are one `all` each, over rules that have nothing alike.
 fn replicas_keep(index: &Index, tallies: &[Tally; 64]) -> bool
     requires { Tallied index.now.used.t.now index.now.used.replicas index.now.used.entries tallies.now }
     ensures { result ≡ every_slot (λ (s : ℕ). replica_keeps (table_at index.now.used.t.now index.now.used.replicas index.now.used.entries)

@@ -10,7 +10,8 @@ use Rattle.document.specs.Tables.{table_of}
 use Rattle.document.specs.Calls.{remove_in}
 use Rattle.changes.specs.Killing.{remove_8, remove_root, remove_shown, remove_child, remove_kills}
 use Rattle.changes.proofs.remove.remove.Goals as goal
-use Rattle.changes.proofs.remove.remove.Goals.{then-not-is_directory-via-then-not-is_directory, then-not-is_directory-via-else-not-is_directory+then-h-eq-ROOT, then-is_any_shown-via-then-is_any_shown, then-is_any_shown-via-else-is_any_shown+then-is_child_live}
+use Rattle.changes.proofs.remove.remove.Goals.{then-not-is_directory-via-then-not-is_directory, then-not-is_directory-via-else-not-is_directory+then-h-eq-ROOT}
+use Rattle.changes.proofs.remove.remove.Goals.{then-is_any_shown-via-then-is_any_shown, then-is_any_shown-via-else-is_any_shown+then-is_child_live}
 
 pub returns-in_err-h : goal.returns-in_err-h
 returns-in_err-h c = refuses_on _ c.in_err-h.field-0.0 c.from_residual.ensures.1 _ c.in_err-h.ensures.1

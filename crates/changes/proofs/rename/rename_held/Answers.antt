@@ -7,7 +7,8 @@ use Rattle.answers.specs.Passing.{refuses_on}
 use Rattle.document.specs.Tables.{table_of}
 use Rattle.changes.specs.Renaming.{renamed_7, renamed_7_target, renamed_8, renamed_8_target, renamed_full, renamed_moves, renames_below}
 use Rattle.changes.proofs.rename.rename_held.Goals as goal
-use Rattle.changes.proofs.rename.rename_held.Goals.{then-not-is_live-via-then-not-is_live, then-not-is_live-via-else-not-is_live+then-not-is_live-2, then-is_directory-via-then-is_directory, then-is_directory-via-else-is_directory+then-not-is_directory}
+use Rattle.changes.proofs.rename.rename_held.Goals.{then-not-is_live-via-then-not-is_live, then-not-is_live-via-else-not-is_live+then-not-is_live-2}
+use Rattle.changes.proofs.rename.rename_held.Goals.{then-is_directory-via-then-is_directory, then-is_directory-via-else-is_directory+then-not-is_directory}
 
 pub returns-then-not-is_live : goal.returns-then-not-is_live
 returns-then-not-is_live c =

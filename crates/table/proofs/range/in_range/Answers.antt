@@ -11,7 +11,11 @@ pub slots_in_range-requires-then-slots_in_range : goal.slots_in_range-requires-t
 slots_in_range-requires-then-slots_in_range c = grind (arith, common_steps, header_nodes)
 
 pub returns-then-slots_in_range : goal.returns-then-slots_in_range
-returns-then-slots_in_range c = rw (range_halves c.args.used.now.t.now c.args.used.now.replicas c.args.used.now.entries (search rules) c.args.used.now.replicas_are c.args.used.now.entries_are) (grind (arith, common_steps))
+returns-then-slots_in_range c =
+    let u = c.args.used.now in
+    rw (range_halves u.t.now u.replicas u.entries (search rules) u.replicas_are u.entries_are) (grind (arith, common_steps))
 
 pub returns-else-slots_in_range : goal.returns-else-slots_in_range
-returns-else-slots_in_range c = rw (range_halves c.args.used.now.t.now c.args.used.now.replicas c.args.used.now.entries (search rules) c.args.used.now.replicas_are c.args.used.now.entries_are) (grind (arith, common_steps))
+returns-else-slots_in_range c =
+    let u = c.args.used.now in
+    rw (range_halves u.t.now u.replicas u.entries (search rules) u.replicas_are u.entries_are) (grind (arith, common_steps))
