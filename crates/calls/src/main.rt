@@ -51,14 +51,7 @@ fn one_request(rt: &(impl Input + Print), tables: &mut [Kept; 8]) -> Result<(), 
     if read_full(rt, payload)? < payload.len() {
         return Err(Stop::Malformed);
     }
-    let mut out = [165u8; 16384];
-    serve::answer(
-        rt,
-        &mut tables[header.slot],
-        header.request,
-        payload,
-        &mut out[..header.room],
-    )
+    serve::answer(rt, &mut tables[header.slot], header, payload)
 }
 
 // Reads until the buffer is full or the input ends, and answers how many bytes it put at its start. After an

@@ -2,7 +2,7 @@
 ghost use Rattle.std.specs.Prelude.{◌≡◌, ◌≤◌, length};
 
 use crate::adler::adler;
-use crate::wire::{Call, Request, Stop};
+use crate::wire::{Call, Header, Request, Stop};
 use answers::Answer;
 use codec::Stored;
 use std::io;
@@ -58,16 +58,18 @@ impl Kept {
     }
 }
 
-// Answers the request, with an output buffer that is as long as its header asks for.
+// Answers the request. A call, and nothing else, gets an output buffer, as long as the header asks for and filled with
+// the byte A5.
 pub fn answer(
     rt: &impl Print,
     kept: &mut Kept,
-    request: Request,
+    header: Header,
     payload: &[u8],
-    out: &mut [u8],
 ) -> Result<(), Stop> {
-    match request {
+    match header.request {
         Request::Call(call) => {
+            let mut buffer = [165u8; 16384];
+            let out = &mut buffer[..header.room];
             let answer = kept.call(call, payload, out);
             respond(rt, answer, kept.table(), out)?;
         }

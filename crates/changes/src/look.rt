@@ -1,5 +1,6 @@
 // What a call looks up: the replica that a number names, and what stands in a directory: a live entry
-// with a name, a live entry at all, a live child that is held.
+// with a name, a live entry at all, a live child that is held. Each but `held` and `room_for` is promised for any
+// bytes as long as a table.
 ghost use Rattle.std.specs.Prelude.{◌≡◌, false, ◌≤◌, ◌<◌, length, MatchResult};
 ghost use Rattle.std.proofs.Math.Option.{none, some};
 ghost use Rattle.document.specs.Tables.{head_of, table_of, entry_in, replica_in};
@@ -47,15 +48,16 @@ pub fn shows(t: &[u8], s: usize, directory: u32) -> bool
 }
 
 // Whether entry slot s is a live entry of the directory with that name.
-fn takes_name(t: &Table, s: usize, directory: u32, name: Name) -> bool
-    requires { s < 256 }
+fn takes_name(t: &[u8], s: usize, directory: u32, name: Name) -> bool
+    requires { (13344 ≤ length t.now) × (s < 256) }
     ensures { result ≡ is_taken_by directory name (entry_in t.now s) }
 {
     shows(t, s, directory) && Name::read(t, 3104 + 40 * s + 16) == name
 }
 
 // Whether a live entry of the directory has that name.
-pub fn is_name_taken(t: &Table, directory: u32, name: Name) -> bool
+pub fn is_name_taken(t: &[u8], directory: u32, name: Name) -> bool
+    requires { 13344 ≤ length t.now }
     ensures { result ≡ name_taken directory name (table_of t.now).entries }
 {
     (0..find::entries_used(t)).any(|s| takes_name(t, s, directory, name))
@@ -78,15 +80,16 @@ pub fn room_for(t: &Table, p: Head, name: Name) -> Result<(), Refusal>
 }
 
 // Whether the directory has a live entry.
-pub fn is_any_shown(t: &Table, directory: u32) -> bool
+pub fn is_any_shown(t: &[u8], directory: u32) -> bool
+    requires { 13344 ≤ length t.now }
     ensures { result ≡ any_shown directory (table_of t.now).entries }
 {
     (0..find::entries_used(t)).any(|s| shows(t, s, directory))
 }
 
 // Whether replica slot s is live, in the directory, and not the root.
-fn is_child(t: &Table, s: usize, directory: u32) -> bool
-    requires { s < 64 }
+fn is_child(t: &[u8], s: usize, directory: u32) -> bool
+    requires { (13344 ≤ length t.now) × (s < 64) }
     ensures { result ≡ is_child_of directory (replica_in t.now s) }
 {
     let h = Head::read(t, 32 + 48 * s);
@@ -94,7 +97,8 @@ fn is_child(t: &Table, s: usize, directory: u32) -> bool
 }
 
 // Whether a held live replica is in the directory.
-pub fn is_child_live(t: &Table, directory: u32) -> bool
+pub fn is_child_live(t: &[u8], directory: u32) -> bool
+    requires { 13344 ≤ length t.now }
     ensures { result ≡ live_child directory (table_of t.now).replicas }
 {
     (0..find::replicas_used(t)).any(|s| is_child(t, s, directory))

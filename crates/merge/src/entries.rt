@@ -1,7 +1,7 @@
 // Steps (d) and (e) of a receive: entries are joined in message order; then every replica made, or
 // whose state was taken, sets its entries, root side first. Which were made or taken, and the place
-// that was the old one, are seen in the table as it stood, which is lent too.
-ghost use Rattle.std.specs.Prelude.{is_ok};
+// that was the old one, are seen in the table as it stood, which is lent too: any bytes as long as one.
+ghost use Rattle.std.specs.Prelude.{◌≤◌, length, is_ok};
 ghost use Rattle.document.specs.Tables.{head_of, table_of};
 ghost use Rattle.document.specs.Steps.{join_all};
 ghost use Rattle.document.specs.Messages.{message_of};
@@ -30,8 +30,8 @@ fn join_entries(t: &mut Table, message: &Message) -> Result<(), NoRoom>
 }
 
 // Sets the entry of an ancestor, if it was made.
-fn set_if_made(old: &Table, t: &mut Table, h: Head) -> Result<(), NoRoom>
-    requires { Works t.old
+fn set_if_made(old: &[u8], t: &mut Table, h: Head) -> Result<(), NoRoom>
+    requires { Works t.old × (13344 ≤ length old.now)
         × AllHeld (set_if_made (head_of (table_of old.now) h.id) h) (table_of t.old) }
     ensures { Made (is_ok result) t.new (setting (table_of old.now) h (table_of t.old)) }
 {
@@ -42,8 +42,8 @@ fn set_if_made(old: &Table, t: &mut Table, h: Head) -> Result<(), NoRoom>
 }
 
 // Sets the entries of the ancestors that were made, root side first.
-fn set_above(old: &Table, t: &mut Table, message: &Message) -> Result<(), NoRoom>
-    requires { Works t.old
+fn set_above(old: &[u8], t: &mut Table, message: &Message) -> Result<(), NoRoom>
+    requires { Works t.old × (13344 ≤ length old.now)
         × AllHeld (set_above (table_of old.now) (message_of message.now.bytes.now).above) (table_of t.old) }
     ensures { Made (is_ok result) t.new
         (join_all (set_above (table_of old.now) (message_of message.now.bytes.now).above)
@@ -57,8 +57,8 @@ fn set_above(old: &Table, t: &mut Table, message: &Message) -> Result<(), NoRoom
 
 // Sets the entries of the pushed replica, if it was made or its state was taken: at its place, and
 // struck at the old one.
-fn set_if_taken(old: &Table, t: &mut Table, h: Head) -> Result<(), NoRoom>
-    requires { Works t.old
+fn set_if_taken(old: &[u8], t: &mut Table, h: Head) -> Result<(), NoRoom>
+    requires { Works t.old × (13344 ≤ length old.now)
         × AllHeld (set_if_taken (head_of (table_of old.now) h.id) h) (table_of t.old) }
     ensures { Made (is_ok result) t.new
         (join_all (set_if_taken (head_of (table_of old.now) h.id) h) (table_of t.old)) }
@@ -73,8 +73,8 @@ fn set_if_taken(old: &Table, t: &mut Table, h: Head) -> Result<(), NoRoom>
 }
 
 // Sets the entries of every replica made, or whose state was taken.
-fn set_in(old: &Table, t: &mut Table, message: &Message) -> Result<(), NoRoom>
-    requires { Works t.old
+fn set_in(old: &[u8], t: &mut Table, message: &Message) -> Result<(), NoRoom>
+    requires { Works t.old × (13344 ≤ length old.now)
         × AllHeld (set_in (table_of old.now) (message_of message.now.bytes.now)) (table_of t.old) }
     ensures { Made (is_ok result) t.new
         (join_all (set_in (table_of old.now) (message_of message.now.bytes.now)) (table_of t.old)) }
@@ -84,8 +84,8 @@ fn set_in(old: &Table, t: &mut Table, message: &Message) -> Result<(), NoRoom>
 }
 
 // Joins the entries of the message, then sets those of what was made or taken.
-pub fn join_all(old: &Table, t: &mut Table, message: &Message) -> Result<(), NoRoom>
-    requires { Works t.old
+pub fn join_all(old: &[u8], t: &mut Table, message: &Message) -> Result<(), NoRoom>
+    requires { Works t.old × (13344 ≤ length old.now)
         × AllHeld (joins (message_of message.now.bytes.now) (table_of old.now)) (table_of t.old) }
     ensures { Made (is_ok result) t.new
         (join_all (joins (message_of message.now.bytes.now) (table_of old.now)) (table_of t.old)) }

@@ -26,6 +26,5 @@ pub fn is_sound(t: &[u8]) -> bool
     let Ok(table) = <&Table>::try_from(t) else {
         return false;
     };
-    let used = Used::of(table);
-    range::in_range(&used) && rules::keeps(&used)
+    range::in_range(table) && rules::keeps(&Used::of(table))
 }

@@ -4,9 +4,8 @@ ghost use Rattle.std.specs.Prelude.{◌≡◌, ℕ, ◌&&◌, ◌+◌, ◌-◌, 
 ghost use Rattle.codec.specs.Bytes.{chunk, u8_at, zero_at};
 ghost use Rattle.document.specs.Tables.{every_slot, table_in_range};
 
-use crate::slot;
 use crate::slot::Slot;
-use crate::used::Used;
+use crate::{find, slot};
 use codec::{Record, Stored};
 use slots::{Listed, Replica, Table, TableHeader};
 
@@ -21,12 +20,14 @@ fn slots_in_range<S: Slot>(t: &Table, used: usize) -> bool
         && codec::is_zero(t, S::FIRST + S::SIZE * used, S::SIZE * (S::COUNT - used))
 }
 
-// Whether a table is in its range.
-pub fn in_range(used: &Used) -> bool
-    ensures { result ≡ table_in_range used.now.t.now }
+// Whether a table is in its range. One whose header is out of range is refused before any slot is counted, one
+// with a replica out of range before the entries are.
+pub fn in_range(t: &Table) -> bool
+    ensures { result ≡ table_in_range t.now }
 {
-    let t = used.t;
-    TableHeader::in_range(t, 0, ())
-        && slots_in_range::<Replica>(t, used.replicas)
-        && slots_in_range::<Listed>(t, used.entries)
+    if !TableHeader::in_range(t, 0, ()) {
+        return false;
+    }
+    let replicas = find::replicas_used(t);
+    slots_in_range::<Replica>(t, replicas) && slots_in_range::<Listed>(t, find::entries_used(t))
 }

@@ -1,6 +1,6 @@
 // What a table shows, as text: the tree that the call `list` gives, drawn with branches, the path of a
 // replica, and the entries that are struck out.
-ghost use Rattle.std.specs.Prelude.{◌<◌};
+ghost use Rattle.std.specs.Prelude.{◌≤◌, ◌<◌, length, IfOk};
 
 use crate::say::{Nodes, Outcome, Stamp, Text};
 use answers::Refusal;
@@ -29,7 +29,9 @@ pub fn id_in(t: &Table, i: usize) -> u32
 }
 
 // The rows that the call lists for the directory with that id, each an entry's record, in the room given.
-pub fn listed<'a>(t: &Table, id: u32, room: &'a mut [u8; LISTING]) -> Result<&'a [u8], Refusal> {
+pub fn listed<'a>(t: &Table, id: u32, room: &'a mut [u8; LISTING]) -> Result<&'a [u8], Refusal>
+    ensures { IfOk result (λ rows. length rows.now ≤ 1024) }
+{
     let n = service::list::list(t, u64::from(id), room)?;
     // usize has no From<u32>.
     let end = room.len().min(Entry::SIZE * n as usize);

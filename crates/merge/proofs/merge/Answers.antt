@@ -21,7 +21,11 @@ returns-in_err-take_heads c =
 pub join_all-requires : goal.join_all-requires
 join_all-requires c =
     let a = rw c.of-message.ensures at c.in_ok-take_heads.ensures in
-    rw c.of-message.ensures (heads_works c.requires c.fits-t a refl, heads_held c.requires c.fits-t a refl)
+    rw c.of-message.ensures (
+      heads_works c.requires c.fits-t a refl,
+      omega (arith, c.told-old),
+      heads_held c.requires c.fits-t a refl,
+    )
 
 pub returns-in_err-join_all : goal.returns-in_err-join_all
 returns-in_err-join_all c =

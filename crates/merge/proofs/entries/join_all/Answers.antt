@@ -8,7 +8,7 @@ use mathlib.Core.List.Memᴰ
 use Rattle.merge.proofs.entries.join_all.Goals as goal
 
 pub join_entries-requires : goal.join_entries-requires
-join_entries-requires c = (c.requires.0, λ e i. c.requires.1 e (Memᴰ.append_left _ i))
+join_entries-requires c = (c.requires.0, λ e i. c.requires.2 e (Memᴰ.append_left _ i))
 
 pub returns-in_err-join_entries : goal.returns-in_err-join_entries
 returns-in_err-join_entries c =
@@ -20,8 +20,9 @@ pub set_in-requires : goal.set_in-requires
 set_in-requires c =
     let m = message_of c.args.message.now.bytes.now in
     let ys = set_in (table_of c.args.old.now) m in (
-      both_works (joined_in m) ys c.args.t.now c.in_ok-join_entries.ensures c.requires.0 c.requires.1,
-      both_held (joined_in m) ys c.args.t.now c.in_ok-join_entries.ensures c.requires.1,
+      both_works (joined_in m) ys c.args.t.now c.in_ok-join_entries.ensures c.requires.0 c.requires.2,
+      c.requires.1,
+      both_held (joined_in m) ys c.args.t.now c.in_ok-join_entries.ensures c.requires.2,
     )
 
 pub returns : goal.returns

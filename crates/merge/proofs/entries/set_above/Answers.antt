@@ -12,11 +12,12 @@ loop-j-init c =
     let old = table_of c.args.old.now in
     let t = c.args.t.now in
     subst (λ (k : ℕ). Setting m.bytes.now old (table_of t) k t) (sym m.heads_are)
-    (setting_start m.bytes.now old (table_of t) (omega (arith, m.some_heads, m.heads_are)) c.requires.0 refl c.requires.1)
+    (setting_start m.bytes.now old (table_of t) (omega (arith, m.some_heads, m.heads_are)) c.requires.0 refl c.requires.2)
 
 pub set_if_made-requires : goal.set_if_made-requires
 set_if_made-requires c = (
   c.loop-j.invariant.works,
+  c.requires.1,
   setting_held_now c.args.message.now.bytes.now (table_of c.args.old.now) (table_of c.args.t.now) _ c.loop-j.invariant
       c.loop-j-test.true _ c.head.ensures,
 )

@@ -15,5 +15,5 @@ set-requires c = c.requires.0.stands
 
 pub returns : goal.returns
 returns c =
-    setting_made (table_of c.args.old.now) c.args.h _ c.requires.0 c.requires.1 (looked_none _ c.head.ensures (sym c.if-is_some.ensures))
+    setting_made (table_of c.args.old.now) c.args.h _ c.requires.0 c.requires.2 (looked_none _ c.head.ensures (sym c.if-is_some.ensures))
     c.place_entry.ensures c.set.ensures.0 c.set.ensures.1

@@ -8,7 +8,7 @@ use mathlib.Core.List.Memᴰ
 use Rattle.merge.proofs.entries.set_in.Goals as goal
 
 pub set_above-requires : goal.set_above-requires
-set_above-requires c = (c.requires.0, λ e i. c.requires.1 e (Memᴰ.append_left _ i))
+set_above-requires c = (c.requires.0, c.requires.1, λ e i. c.requires.2 e (Memᴰ.append_left _ i))
 
 pub returns-in_err-set_above : goal.returns-in_err-set_above
 returns-in_err-set_above c =
@@ -23,8 +23,9 @@ set_if_taken-requires c =
     let m = message_of l.bytes.now in
     let old = table_of c.args.old.now in (
       both_works (set_above old m.above) (set_if_taken (head_of old m.first.id) m.first) c.args.t.now c.in_ok-set_above.ensures
-          c.requires.0 c.requires.1,
-      first_held l.bytes.now old c.args.t.now c.in_ok-set_above.ensures _ l.first_is c.requires.1,
+          c.requires.0 c.requires.2,
+      c.requires.1,
+      first_held l.bytes.now old c.args.t.now c.in_ok-set_above.ensures _ l.first_is c.requires.2,
     )
 
 pub returns : goal.returns
